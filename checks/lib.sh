@@ -1,0 +1,56 @@
+# shellcheck shell=bash disable=SC2034
+# What the checks share. A file of checks reads this file, calls `passes`, `fails`, `same` and `skips`, and ends with `report`.
+
+top=$(dirname -- "$(dirname -- "$(readlink -f -- "${BASH_SOURCE[0]}")")")
+scratch=$(mktemp -d)
+trap 'rm -rf -- "$scratch"' EXIT
+
+passed=0
+failed=0
+
+passes() {
+    passed=$((passed + 1))
+    printf 'ok    %s\n' "$1"
+}
+
+fails() {
+    failed=$((failed + 1))
+    printf 'FAIL  %s\n' "$1"
+}
+
+skips() {
+    printf 'skip  %s\n' "$1"
+}
+
+# same NAME WANTED FOUND: two files with the same bytes.
+same() {
+    if cmp -s -- "$2" "$3"; then
+        passes "$1"
+    else
+        fails "$1"
+        diff -u --label wanted --label found -- "$2" "$3" | sed 's/^/      /'
+    fi
+}
+
+# runs NAME STATUS WANTED COMMAND..: the command ends with the status and prints the bytes of the file WANTED.
+runs() {
+    local name=$1 status=$2 wanted=$3 found=0
+    shift 3
+    "$@" >"$scratch/printed" || found=$?
+    if ((found == status)); then
+        passes "$name ends with $status"
+    else
+        fails "$name ends with $found in place of $status"
+    fi
+    same "$name prints what it must" "$wanted" "$scratch/printed"
+}
+
+# Ends a file of checks. With a place to count in (checks/run gives one), the counts go there.
+report() {
+    if [[ -n ${CHECK_COUNTS:-} ]]; then
+        printf '%s %s\n' "$passed" "$failed" >>"$CHECK_COUNTS"
+    else
+        printf '%s passed, %s failed\n' "$passed" "$failed"
+    fi
+    ((failed == 0))
+}

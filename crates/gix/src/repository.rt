@@ -1,0 +1,52 @@
+//! The repository itself, and what it shows of its store.
+
+ghost use Rattle.std.specs.Prelude.{◌≡◌};
+ghost use Rattle.gix.specs.Repository.{store_of, settings_of};
+
+use crate::Settings;
+use gx_hash::HashKind;
+use gx_store::Store;
+
+/// A repository over a store: what reads it takes it by `&self`, what writes it by `&mut self`.
+#[derive(Drop)]
+pub struct Repository<S> {
+    pub(crate) store: S,
+    settings: Settings,
+}
+
+impl<S: Store> Repository<S> {
+    /// Takes the store as it is. Nothing is read or written.
+    pub fn new(store: S, settings: Settings) -> Self
+        ensures store { store_of result ≡ store }
+        ensures settings { settings_of result ≡ settings }
+    {
+        Repository { store, settings }
+    }
+
+    pub fn store(&self) -> &S
+        ensures { result.now ≡ store_of self.now }
+    {
+        &self.store
+    }
+
+    pub fn settings(&self) -> &Settings
+        ensures { result.now ≡ settings_of self.now }
+    {
+        &self.settings
+    }
+
+    /// The kind of every id in the repository.
+    pub fn object_hash(&self) -> HashKind
+        ensures { result ≡ (S.state (store_of self.now)).hash }
+    {
+        self.store.hash_kind()
+    }
+
+    /// The store, when the repository is no longer needed.
+    pub fn into_store(self) -> S
+        ensures { result ≡ store_of self }
+    {
+        let Repository { store, settings: _ } = self;
+        store
+    }
+}

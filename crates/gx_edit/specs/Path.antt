@@ -1,0 +1,33 @@
+-- Paths of a directory tree.
+use Rattle.std.specs.Prelude.{◌≢◌, ℕ, Bool, true, false, ◌&&◌, ◌==◌, if◌then◌else◌, List, [], ◌∷◌, Contains, bytes_eq}
+use Rattle.std.specs.Cmp.Lexicographic.{pointwise}
+
+-- A path is the names that lead from the root down.
+abbrev pub Path : Type 0
+Path = List (List ℕ)
+
+-- a byte more in front of the first name
+abbrev pub at_front : ℕ → Path → Path
+at_front b [] = (b ∷ []) ∷ []
+at_front b (name ∷ path) = (b ∷ name) ∷ path
+
+-- A path is written with a slash between its names; so a text is parted at each slash. (git-ls-files(1), "Output")
+abbrev pub components : List ℕ → Path
+components [] = [] ∷ []
+components (b ∷ bytes) = if b == 47 then [] ∷ components bytes else at_front b (components bytes)
+
+-- A name in a tree is not empty and holds neither a slash nor a zero byte. (git-fsck(1), "emptyName", "fullPathname")
+pub record IsName (name : List ℕ) : Type 0 where
+  pub not_empty : name ≢ []
+  pub no_slash : Contains name 47 → ⊥
+  pub no_zero : Contains name 0 → ⊥
+
+-- two paths are one
+abbrev pub path_eq : Path → Path → Bool
+path_eq = pointwise bytes_eq
+
+-- the second path is the first, or lies below it
+abbrev pub leads_to : Path → Path → Bool
+leads_to [] q = true
+leads_to (n ∷ p) [] = false
+leads_to (n ∷ p) (m ∷ q) = bytes_eq n m && leads_to p q

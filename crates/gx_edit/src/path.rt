@@ -1,0 +1,53 @@
+//! Paths as they are written: names with a slash between each two.
+
+ghost use Rattle.std.specs.Prelude.{◌≡◌, ◌+◌, ◌<◌, ◌==◌, ◌∷◌, [], length, take, drop, position, MatchOption};
+ghost use Rattle.gx_edit.specs.Path.{components};
+
+fn slash_at(path: &[u8]) -> Option<usize>
+    ensures { result ≡ position (λ b. b == 47) path.now }
+{
+    path.iter().position(|byte| *byte == b'/')
+}
+
+/// Where the first name of a path ends.
+#[tactic(auto, using(crate::proofs::ComponentLemmas::components_found))]
+fn first_slash(path: &[u8]) -> Option<usize>
+    ensures { MatchOption result (components path.now ≡ path.now ∷ [])
+        (λ at. (at < length path.now) × (components path.now ≡ take at path.now ∷ components (drop (at + 1) path.now))) }
+{
+    slash_at(path)
+}
+
+/// Parts a path at its first slash, into the first name and the path behind the slash. None where there is no slash.
+pub fn split_first_name(path: &[u8]) -> Option<(&[u8], &[u8])>
+    ensures parts { MatchOption result (components path.now ≡ path.now ∷ [])
+        (λ parts. components path.now ≡ parts.0.now ∷ components parts.1.now) }
+    ensures more { MatchOption result (Unit {0}) (λ parts. (components parts.1.now ≡ []) → ⊥) }
+    ensures shorter { MatchOption result (Unit {0}) (λ parts. length parts.1.now < length path.now) }
+{
+    match first_slash(path) {
+        None => None,
+        Some(at) => Some((&path[..at], &path[at + 1..])),
+    }
+}
+
+#[cfg(test)]
+mod tests {
+    use super::*;
+
+    fn parts_into(path: &[u8], first: &[u8], rest: &[u8]) -> bool {
+        match split_first_name(path) {
+            Some((name, below)) => name == first && below == rest,
+            None => false,
+        }
+    }
+
+    #[test]
+    fn parts_a_path_at_its_first_slash(rt: HostRuntime) {
+        assert!(rt; parts_into(b"a/b/c", b"a", b"b/c"));
+        assert!(rt; parts_into(b"/a", b"", b"a"));
+        assert!(rt; parts_into(b"a/", b"a", b""));
+        assert!(rt; split_first_name(b"a").is_none());
+        assert!(rt; split_first_name(b"").is_none());
+    }
+}

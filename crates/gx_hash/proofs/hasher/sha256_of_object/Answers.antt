@@ -1,0 +1,10 @@
+use Rattle.std.proofs.Common.{◌∙◌, ap, append_assoc}
+use Rattle.sha2.specs.Sha256.{sha256}
+use Rattle.gx_hash.proofs.hasher.sha256_of_object.Goals as goal
+
+-- what was fed piece by piece is the whole
+pub returns : goal.returns
+returns c =
+    let fed = c.finalize.ensures _ (c.update-5.ensures _ (c.update-4.ensures _ (c.update-3.ensures _ (c.update-2.ensures _ (c.update.ensures _ c.new-hasher.ensures))))) in
+    let text = c.as_bytes.ensures.value ∙ c.format.ensures.text in
+    fed ∙ ap sha256 (simp (append_assoc, text))

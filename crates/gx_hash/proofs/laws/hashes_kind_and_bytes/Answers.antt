@@ -1,0 +1,5 @@
+use Rattle.gx_hash.proofs.IdLaws.{derived_hash-id_hash_input}
+use Rattle.gx_hash.proofs.laws.hashes_kind_and_bytes.Goals as goal
+
+pub returns : goal.returns
+returns c = derived_hash-id_hash_input

@@ -1,0 +1,2 @@
+pub mod HashKind
+pub mod ObjectId

@@ -1,0 +1,187 @@
+ghost use Rattle.std.specs.Prelude.{◌≡◌, Some, ◌++◌, ◌↔◌, ◌*◌, length, IfOk, OnOk, OnErr, IsTrue};
+ghost use Rattle.gx_hash.specs.HashKind.{len_in_bytes, kind_of, IsOfKind};
+ghost use Rattle.gx_hash.specs.ObjectId.{bytes_of, hex_of, null_id, empty_tree_id, empty_blob_id, id_from_bytes, bytes_from_hex, id_from_hex};
+
+use crate::{Bytes, HashKind, NoMemory, object_id};
+use hex::{FromHex, FromHexError};
+use std::alloc::Global;
+use std::fmt;
+use thiserror::Error;
+
+/// The id of an object. Ids are ordered by kind, then by bytes.
+#[derive(Clone, Copy, PartialEq, Eq, PartialOrd, Ord, Hash)]
+pub enum ObjectId {
+    Sha1([u8; 20]),
+    Sha256([u8; 32]),
+}
+
+/// Why a text is no id.
+#[derive(Clone, Copy, Debug, PartialEq, Eq, Error)]
+pub enum HexError {
+    /// No kind of id has so many digits.
+    #[error("no id has {found} hex digits")]
+    BadLength { found: usize },
+    /// The first byte that is no hex digit.
+    #[error("byte {at} is no hex digit")]
+    BadDigit { at: usize },
+}
+
+impl ObjectId {
+    /// The id whose bytes are all zero, which names no object.
+    pub fn null(kind: HashKind) -> ObjectId
+        ensures id { result ≡ null_id kind }
+        ensures kind { IsOfKind kind result }
+    {
+        match kind {
+            HashKind::Sha1 => ObjectId::Sha1([0; 20]),
+            HashKind::Sha256 => ObjectId::Sha256([0; 32]),
+        }
+    }
+
+    /// The id of the tree without entries.
+    pub fn empty_tree(kind: HashKind) -> ObjectId
+        ensures id { result ≡ empty_tree_id kind }
+        ensures kind { IsOfKind kind result }
+    {
+        object_id(kind, b"tree", &[])
+    }
+
+    /// The id of the blob without bytes.
+    pub fn empty_blob(kind: HashKind) -> ObjectId
+        ensures id { result ≡ empty_blob_id kind }
+        ensures kind { IsOfKind kind result }
+    {
+        object_id(kind, b"blob", &[])
+    }
+
+    pub fn kind(&self) -> HashKind
+        ensures { result ≡ kind_of self.now }
+    {
+        match self {
+            ObjectId::Sha1(_) => HashKind::Sha1,
+            ObjectId::Sha256(_) => HashKind::Sha256,
+        }
+    }
+
+    /// The raw bytes, as many as an id of its kind has.
+    pub fn as_bytes(&self) -> &[u8]
+        ensures bytes { result.now ≡ bytes_of self.now }
+        ensures len { length result.now ≡ len_in_bytes (kind_of self.now) }
+    {
+        match self {
+            ObjectId::Sha1(bytes) => bytes,
+            ObjectId::Sha256(bytes) => bytes,
+        }
+    }
+
+    pub fn is_null(&self) -> bool
+        ensures { IsTrue result ↔ (self.now ≡ null_id (kind_of self.now)) }
+    {
+        *self == ObjectId::null(self.kind())
+    }
+
+    pub fn is_empty_tree(&self) -> bool
+        ensures { IsTrue result ↔ (self.now ≡ empty_tree_id (kind_of self.now)) }
+    {
+        *self == ObjectId::empty_tree(self.kind())
+    }
+
+    /// The id with these bytes, where they are as many as an id of the kind has.
+    pub fn from_bytes(kind: HashKind, bytes: &[u8]) -> Option<ObjectId>
+        ensures { result ≡ id_from_bytes kind bytes.now }
+    {
+        match kind {
+            HashKind::Sha1 => match <[u8; 20]>::try_from(bytes) {
+                Ok(bytes) => Some(ObjectId::Sha1(bytes)),
+                Err(_) => None,
+            },
+            HashKind::Sha256 => match <[u8; 32]>::try_from(bytes) {
+                Ok(bytes) => Some(ObjectId::Sha256(bytes)),
+                Err(_) => None,
+            },
+        }
+    }
+
+    /// The id that hex digits of either case spell. The length is tested before the digits.
+    pub fn from_hex(digits: &[u8]) -> Result<ObjectId, HexError>
+        ensures { result ≡ id_from_hex digits.now }
+    {
+        match digits.len() {
+            40 => Ok(ObjectId::Sha1(bytes_from_hex(digits)?)),
+            64 => Ok(ObjectId::Sha256(bytes_from_hex(digits)?)),
+            found => Err(HexError::BadLength { found }),
+        }
+    }
+
+    /// The id's digits, in lower case, as they stand in the buffer.
+    fn write_hex<'a>(&self, buffer: &'a mut [u8; 64]) -> &'a [u8]
+        ensures { result.now ≡ hex_of self.now }
+    {
+        let digits = &mut buffer[..self.kind().len_in_hex()];
+        hex::encode_to_slice(self.as_bytes(), digits).unwrap();
+        digits
+    }
+
+    /// Appends the id's digits, in lower case.
+    pub fn push_hex(&self, out: &mut Vec<u8>) -> Result<(), NoMemory>
+        ensures ok { OnOk result (out.new.items ≡ out.old.items ++ hex_of self.now) }
+        ensures err { OnErr result (out.new.items ≡ out.old.items) }
+    {
+        let mut buffer = [0; 64];
+        out.extend_from_slice(self.write_hex(&mut buffer))?;
+        Ok(())
+    }
+
+    /// The id's digits, in lower case.
+    pub fn to_hex(&self, alloc: Global) -> Result<Bytes, NoMemory>
+        ensures { IfOk result (λ digits. digits ≡ hex_of self.now) }
+    {
+        let mut digits = Vec::with_capacity(alloc, self.kind().len_in_hex())?;
+        self.push_hex(&mut digits)?;
+        Ok(Bytes::from_vec(digits))
+    }
+}
+
+/// The bytes that twice as many hex digits spell.
+fn bytes_from_hex<const N: usize>(digits: &[u8]) -> Result<[u8; N], HexError>
+    requires { length digits.now ≡ 2 * N }
+    ensures { result ≡ bytes_from_hex digits.now }
+{
+    match <[u8; N] as FromHex>::from_hex(digits) {
+        Ok(bytes) => Ok(bytes),
+        Err(FromHexError::InvalidHexCharacter { index, .. }) => {
+            Err(HexError::BadDigit { at: index })
+        }
+        Err(_) => Err(HexError::BadLength {
+            found: digits.len(),
+        }),
+    }
+}
+
+impl fmt::Display for ObjectId {
+    ghost output = { λ id. Some (hex_of id) };
+
+    fn fmt<W: fmt::Write>(&self, f: &mut fmt::Formatter<W>) -> fmt::Result {
+        let mut buffer = [0; 64];
+        match str::from_utf8(self.write_hex(&mut buffer)) {
+            Ok(digits) => f.write_str(digits),
+            Err(_) => Err(fmt::Error),
+        }
+    }
+}
+
+impl fmt::Debug for ObjectId {
+    ghost use Rattle.gx_hash.specs.ObjectId.{debug_text};
+
+    ghost debug_output = { λ id. Some (debug_text id) };
+
+    fn fmt<W: fmt::Write>(&self, f: &mut fmt::Formatter<W>) -> fmt::Result {
+        match self {
+            ObjectId::Sha1(_) => write!(f, "Sha1({self})"),
+            ObjectId::Sha256(_) => write!(f, "Sha256({self})"),
+        }
+    }
+}
+
+#[cfg(test)]
+mod tests;

@@ -1,0 +1,3 @@
+pub mod CommitFields
+pub mod Octal
+pub mod TitleLines

@@ -1,0 +1,8 @@
+use Rattle.std.proofs.Common.{◌≡◌, ◌++◌, drop, codes}
+use Rattle.std.specs.List.{flat_map}
+use Rattle.gx_object.specs.Commit.{id_line}
+use Rattle.gx_object.proofs.commit.write.push_parents.Given as goal
+
+-- what is written and what is left to write are the whole
+abbrev pub invariant-loop-id : goal.invariant-loop-id
+invariant-loop-id l = l.out.items ++ flat_map (id_line (codes "parent ")) (drop l.id-index l.parents) ≡ l.fn.out.items ++ flat_map (id_line (codes "parent ")) l.parents

@@ -1,0 +1,13 @@
+-- Which of the fields of a value is named, where several can't be written.
+use Rattle.std.specs.Prelude.{Bool, not, List, [], ◌∷◌, Option}
+use Rattle.std.specs.List.{find}
+use Rattle.gx_object.specs.declared.encode.Field.{Field}
+use Rattle.gx_object.specs.declared.encode.Field.TheVariants.{FileName, AuthorName, AuthorEmail, AuthorOffset, CommitterName, CommitterEmail, CommitterOffset, TaggerName, TaggerEmail, TaggerOffset, TagName, Encoding, HeaderName}
+
+-- each field, in the order in which they are tested
+abbrev pub all_fields : List Field
+all_fields = FileName ∷ AuthorName ∷ AuthorEmail ∷ AuthorOffset ∷ CommitterName ∷ CommitterEmail ∷ CommitterOffset ∷ TaggerName ∷ TaggerEmail ∷ TaggerOffset ∷ TagName ∷ Encoding ∷ HeaderName ∷ []
+
+-- the first field that can't be written
+abbrev pub first_unwritable : (Field → Bool) → Option Field
+first_unwritable is_writable = find (λ field. not (is_writable field)) all_fields

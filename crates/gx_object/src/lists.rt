@@ -1,0 +1,143 @@
+ghost use Rattle.std.specs.Prelude.{◌≡◌, [], IfOk};
+
+use crate::{Entry, ExtraHeader};
+use gx_hash::{NoMemory, ObjectId};
+use std::alloc::Global;
+use std::marker::Model;
+
+/// A list of ids.
+#[derive(Debug, Drop)]
+pub struct Ids {
+    vec: Vec<ObjectId>,
+}
+
+impl Model for Ids {
+    ghost use Rattle.std.specs.Prelude.{List};
+    ghost use Rattle.gx_hash.specs.declared.oid.ObjectId.{ObjectId};
+
+    ghost Value = { List ObjectId };
+
+    ghost view = { λ ids. ids.vec.items };
+}
+
+impl Ids {
+    pub fn new(alloc: Global) -> Ids
+        ensures { result ≡ [] }
+    {
+        Ids {
+            vec: Vec::new(alloc),
+        }
+    }
+
+    pub fn from_vec(vec: Vec<ObjectId>) -> Ids
+        ensures { result ≡ vec.items }
+    {
+        Ids { vec }
+    }
+
+    pub fn into_vec(self) -> Vec<ObjectId>
+        ensures { result.items ≡ self }
+    {
+        self.vec
+    }
+
+    pub fn as_slice(&self) -> &[ObjectId]
+        ensures { result.now ≡ self.now }
+    {
+        &self.vec
+    }
+
+    pub fn try_clone(&self) -> Result<Ids, NoMemory>
+        ensures { IfOk result (λ copy. copy ≡ self.now) }
+    {
+        Ok(Ids {
+            vec: self.vec.clone()?,
+        })
+    }
+}
+
+/// The entries of a tree, in their order.
+#[derive(Debug, Drop)]
+pub struct Entries {
+    vec: Vec<Entry>,
+}
+
+impl Model for Entries {
+    ghost use Rattle.std.specs.Prelude.{List};
+    ghost use Rattle.gx_object.specs.declared.tree.Entry.{Entry};
+
+    ghost Value = { List Entry };
+
+    ghost view = { λ entries. entries.vec.items };
+}
+
+impl Entries {
+    pub fn new(alloc: Global) -> Entries
+        ensures { result ≡ [] }
+    {
+        Entries {
+            vec: Vec::new(alloc),
+        }
+    }
+
+    pub fn from_vec(vec: Vec<Entry>) -> Entries
+        ensures { result ≡ vec.items }
+    {
+        Entries { vec }
+    }
+
+    pub fn into_vec(self) -> Vec<Entry>
+        ensures { result.items ≡ self }
+    {
+        self.vec
+    }
+
+    pub fn as_slice(&self) -> &[Entry]
+        ensures { result.now ≡ self.now }
+    {
+        &self.vec
+    }
+}
+
+/// The further headers of a commit, in their order.
+#[derive(Debug, Drop)]
+pub struct Headers {
+    vec: Vec<ExtraHeader>,
+}
+
+impl Model for Headers {
+    ghost use Rattle.std.specs.Prelude.{List};
+    ghost use Rattle.gx_object.specs.declared.commit.ExtraHeader.{ExtraHeader};
+
+    ghost Value = { List ExtraHeader };
+
+    ghost view = { λ headers. headers.vec.items };
+}
+
+impl Headers {
+    pub fn new(alloc: Global) -> Headers
+        ensures { result ≡ [] }
+    {
+        Headers {
+            vec: Vec::new(alloc),
+        }
+    }
+
+    pub fn from_vec(vec: Vec<ExtraHeader>) -> Headers
+        ensures { result ≡ vec.items }
+    {
+        Headers { vec }
+    }
+
+    pub fn into_vec(self) -> Vec<ExtraHeader>
+        ensures { result.items ≡ self }
+    {
+        self.vec
+    }
+
+    pub fn as_slice(&self) -> &[ExtraHeader]
+        ensures { result.now ≡ self.now }
+    {
+        &self.vec
+    }
+}

@@ -1,0 +1,44 @@
+-- At most one error tells the first rule that a name breaks.
+use Rattle.std.proofs.Common.{◌≡◌, ℕ, List, ap, arith, refl, inl, inr}
+use Rattle.std.proofs.lemmas.Bool.{cases_order}
+use Rattle.gx_rules.specs.declared.name_error.NameError.{NameError}
+use Rattle.gx_rules.specs.declared.name_error.NameError.TheVariants.{Empty, InvalidByte, RepeatedDot, ReflogPortion, StartsWithSlash, EndsWithSlash, RepeatedSlash, StartsWithDot, LockFileSuffix, EndsWithDot, SingleAt, SomeLowercase, NoMemory}
+use Rattle.gx_rules.specs.Name.{Breaks, rank, IsFirstPlace, IsFirstBroken}
+
+-- a property has one first place
+same_place : (P : ℕ → Type 0) (a b : ℕ) → IsFirstPlace P a → IsFirstPlace P b → a ≡ b
+same_place P a b first second =
+    elim (cases_order a b) [
+      | inl same ↦ same
+      | inr apart ↦ elim apart [
+        | inl below ↦ absurd (second.before a below first.here)
+        | inr above ↦ absurd (first.before b above second.here)
+      ]
+    ]
+
+-- errors of one rule that a name breaks are one
+same_of_rank : (name : List ℕ) (a b : NameError) → rank a ≡ rank b → Breaks name a → Breaks name b → a ≡ b
+same_of_rank name Empty Empty e p q = refl
+same_of_rank name (InvalidByte j) (InvalidByte k) e p q = ap InvalidByte (same_place _ j k p q)
+same_of_rank name (RepeatedDot j) (RepeatedDot k) e p q = ap RepeatedDot (same_place _ j k p q)
+same_of_rank name (ReflogPortion j) (ReflogPortion k) e p q = ap ReflogPortion (same_place _ j k p q)
+same_of_rank name StartsWithSlash StartsWithSlash e p q = refl
+same_of_rank name EndsWithSlash EndsWithSlash e p q = refl
+same_of_rank name (RepeatedSlash j) (RepeatedSlash k) e p q = ap RepeatedSlash (same_place _ j k p q)
+same_of_rank name (StartsWithDot j) (StartsWithDot k) e p q = ap StartsWithDot (same_place _ j k p q)
+same_of_rank name (LockFileSuffix j) (LockFileSuffix k) e p q = ap LockFileSuffix (same_place _ j k p q)
+same_of_rank name EndsWithDot EndsWithDot e p q = refl
+same_of_rank name SingleAt SingleAt e p q = refl
+same_of_rank name SomeLowercase SomeLowercase e p q = refl
+same_of_rank name NoMemory b e p q = absurd p
+same_of_rank name a b e p q = absurd (omega arith)
+
+pub one_first_broken : (name : List ℕ) (a b : NameError) → IsFirstBroken name a → IsFirstBroken name b → a ≡ b
+one_first_broken name a b first second =
+    elim (cases_order (rank a) (rank b)) [
+      | inl same ↦ same_of_rank name a b same first.broken second.broken
+      | inr apart ↦ elim apart [
+        | inl below ↦ absurd (second.earlier a below first.broken)
+        | inr above ↦ absurd (first.earlier b above second.broken)
+      ]
+    ]

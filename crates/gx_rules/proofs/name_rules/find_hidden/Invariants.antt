@@ -1,0 +1,6 @@
+use Rattle.std.proofs.Common.{ℕ, ◌<◌}
+use Rattle.gx_rules.specs.Name.{HiddenAt}
+use Rattle.gx_rules.proofs.name_rules.find_hidden.Given as goal
+
+abbrev pub invariant-loop-at : goal.invariant-loop-at
+invariant-loop-at l = (k : ℕ) → k < l.at → ¬ HiddenAt l.name k

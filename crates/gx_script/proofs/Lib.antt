@@ -1,0 +1,9 @@
+pub mod CommitLemmas
+pub mod EditLemmas
+pub mod ItemLemmas
+pub mod LiftLemmas
+pub mod LineLemmas
+pub mod NumberLemmas
+pub mod OutsideLemmas
+pub mod ReaderLemmas
+pub mod SplitLemmas

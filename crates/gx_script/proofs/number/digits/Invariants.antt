@@ -1,0 +1,10 @@
+use Rattle.std.proofs.Common.{◌≡◌, ◌<◌, ◌^◌, take}
+use Rattle.std.specs.Str.Parse.{AllDigits, digits_value}
+use Rattle.gx_script.proofs.number.digits.Given as goal
+
+abbrev pub invariant-loop-b : goal.invariant-loop-b
+invariant-loop-b l = record {
+  value : l.value ≡ digits_value 10 (take l.b-index l.bytes);
+  digits : AllDigits 10 (take l.b-index l.bytes);
+  fits : l.value < 2 ^ 64;
+}

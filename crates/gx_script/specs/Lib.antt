@@ -1,0 +1,6 @@
+pub mod CommitSteps
+pub mod Lines
+pub mod Reading
+pub mod Script
+pub mod Spelling
+pub mod Steps

@@ -1,0 +1,19 @@
+//! The script language: requests, and the reader that takes them from a source one after another.
+//!
+//! A request is spelled by lines and blocks. A line ends with a newline; a block has the length that the line before
+//! it declares, and a newline behind it. The reader gives each request as soon as all of it is there, asks for no more
+//! than it needs to go on, and takes no byte past its limit.
+#![tactic(auto)]
+
+mod commit;
+mod error;
+mod feed;
+mod lines;
+mod number;
+mod reader;
+mod request;
+mod split;
+
+pub use error::ScriptError;
+pub use reader::ScriptReader;
+pub use request::{CommitRequest, Request};

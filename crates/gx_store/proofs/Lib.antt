@@ -1,0 +1,10 @@
+pub mod Becoming
+pub mod ConflictLemmas
+pub mod ContentLemmas
+pub mod Growth
+pub mod Keys
+pub mod KindLemmas
+pub mod MapLemmas
+pub mod OutsideLemmas
+pub mod Prefixes
+pub mod SlotLemmas

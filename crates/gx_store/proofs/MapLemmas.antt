@@ -1,0 +1,38 @@
+-- Maps that are kept as entries.
+use Rattle.std.proofs.Common.{◌≡◌, ◌∙◌, sym, ap, refl, subst, cond, List, [], ◌∷◌, Some}
+use Rattle.std.specs.declared.cmp.Ordering.{Ordering}
+use Rattle.std.specs.BTreeMap.{is_at}
+use Rattle.std.specs.Cmp.{IsTotalOrder, eq_by_cmp_equiv}
+use Rattle.std.specs.Map.{lookup}
+use Rattle.gx_rules.specs.Name.{name_cmp}
+use Rattle.gx_hash.specs.ObjectId.{id_cmp}
+use Rattle.gx_hash.specs.declared.oid.ObjectId.{ObjectId}
+use Rattle.gx_hash.proofs.IdLaws.{id_cmp_total, id_cmp-IsAntisymmetric, derived_cmp, derived_cmp-id_cmp}
+use Rattle.std.specs.FinMap.{IsAntisymmetric, slice_cmp-IsAntisymmetric, nat_cmp-IsAntisymmetric, find, get, insert, from_entries, get-from_entries, get-insert, same_map}
+
+-- two ways to find the first entry of a key
+pub find_is : {K X : Type 0} (R : K → K → Ordering) (es : List (K × X)) (q : K) → find R q es ≡ lookup (is_at (R q)) es
+find_is R [] q = refl
+find_is R (e ∷ es) q = ap (cond (is_at (R q) e.0) (Some e.1)) (find_is R es q)
+
+-- what the map of some entries has at a key
+pub get_kept : {K X : Type 0} {R : K → K → Ordering} → IsTotalOrder R → (es : List (K × X)) (q : K) → get (from_entries {R = R} es) q ≡ lookup (is_at (R q)) es
+get_kept {R = R} total es q = get-from_entries total es q ∙ find_is R es q
+
+-- entries that differ at one key make maps that differ there
+pub inserted : {K X : Type 0} {R : K → K → Ordering} → IsTotalOrder R → IsAntisymmetric R → (es fs : List (K × X)) (k : K) (v : X) → ((q : K) → lookup (is_at (R q)) fs ≡ cond (is_at (R k) q) (Some v) (lookup (is_at (R q)) es)) → from_entries {R = R} fs ≡ insert (from_entries es) k v
+inserted {R = R} total exact es fs k v h = same_map total exact _ _ (λ q.
+    get_kept total fs q ∙ h q ∙ ap (λ b. cond b (Some v) (lookup (is_at (R q)) es)) ((eq_by_cmp_equiv total).symm k q)
+    ∙ sym (get-insert total (from_entries es) k v q ∙ ap (cond (is_at (R q) k) (Some v)) (get_kept total es q)))
+
+-- the same of ids, which a tree map compares by their derived order
+pub get_object : {X : Type 0} (es : List (ObjectId × X)) (q : ObjectId) → get (from_entries {R = id_cmp} es) q ≡ lookup (is_at (derived_cmp q)) es
+get_object es q = get_kept id_cmp_total es q ∙ ap (λ R. lookup (is_at (R q)) es) (sym derived_cmp-id_cmp)
+
+pub inserted_object : {X : Type 0} (es fs : List (ObjectId × X)) (k : ObjectId) (v : X) → ((q : ObjectId) → lookup (is_at (derived_cmp q)) fs ≡ cond (is_at (derived_cmp k) q) (Some v) (lookup (is_at (derived_cmp q)) es)) → from_entries {R = id_cmp} fs ≡ insert (from_entries es) k v
+inserted_object es fs k v h = inserted id_cmp_total id_cmp-IsAntisymmetric es fs k v
+    (subst (λ R. (q : ObjectId) → lookup (is_at (R q)) fs ≡ cond (is_at (R k) q) (Some v) (lookup (is_at (R q)) es)) derived_cmp-id_cmp h)
+
+-- names that compare as equal are one
+pub exact_names : IsAntisymmetric name_cmp
+exact_names = slice_cmp-IsAntisymmetric nat_cmp-IsAntisymmetric

@@ -1,0 +1,15 @@
+pub mod Breaks
+pub mod Calls
+pub mod Change
+pub mod Conflict
+pub mod Content
+pub mod Faults
+pub mod Headers
+pub mod Kept
+pub mod Kinds
+pub mod Laws
+pub mod Memory
+pub mod MemoryEnds
+pub mod Outside
+pub mod Slots
+pub mod State

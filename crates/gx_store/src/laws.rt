@@ -1,0 +1,51 @@
+//! Laws of what is stored and of what changes make, for proofs about stores. The functions do nothing.
+ghost use Rattle.gx_store.specs.Laws.{WritesOnce, WritingAdds, AddsTogether, AddedIsFound, FoundStays, OthersAreKept, EachIsMade, SameAfter, AppliedAfter, StoredAfter, CauseAfter, FaultAfter};
+
+/// Writing an object whose id is there changes nothing.
+#[tactic(auto, using(crate::proofs::ContentLemmas::writes_once))]
+pub fn writes_once()
+    ensures { WritesOnce }
+{}
+
+/// Writing objects adds them, and keeps what was there.
+#[tactic(auto, using(crate::proofs::ContentLemmas::writing_adds))]
+pub fn writing_adds()
+    ensures { WritingAdds }
+{}
+
+/// What is added by one after the other is added together.
+pub fn adds_together()
+    ensures { AddsTogether }
+{}
+
+/// Objects that share no digest are all found once they were added.
+#[tactic(auto, using(crate::proofs::ContentLemmas::added_is_found))]
+pub fn added_is_found()
+    ensures { AddedIsFound }
+{}
+
+/// What is found stays found, as it is.
+#[tactic(auto, using(crate::proofs::ContentLemmas::found_stays))]
+pub fn found_stays()
+    ensures { FoundStays }
+{}
+
+/// A name that no change names keeps its target and its log.
+pub fn others_are_kept()
+    ensures { OthersAreKept }
+{}
+
+/// Of changes with distinct names each is made.
+#[tactic(auto, using(crate::proofs::ContentLemmas::each_is_made))]
+pub fn each_is_made()
+    ensures { EachIsMade }
+{}
+
+/// What becomes of a state that has become what was wanted, becomes of what was wanted.
+pub fn after()
+    ensures same { SameAfter }
+    ensures applied { AppliedAfter }
+    ensures stored { StoredAfter }
+    ensures cause { CauseAfter }
+    ensures fault { FaultAfter }
+{}

@@ -1,0 +1,314 @@
+ghost use Rattle.std.specs.Prelude.{◌≡◌, IfOk, OnOk, OnErr};
+ghost use Rattle.gx_store.specs.Slots.{refs_of};
+ghost use Rattle.gx_store.specs.Kinds.{AreRefsOfKind, AreRefsOfKind-prop, AreChangesOfKind};
+
+use crate::slots::Slot;
+use crate::{
+    Header, Lines, Meanings, Names, Objects, RefChange, References, Store, StoreError, Target,
+    What, conflict, maps, slots,
+};
+use gx_hash::{Bytes, HashKind, NoMemory, ObjectId};
+use gx_object::Kind;
+use gx_rules::FullName;
+use std::alloc::Global;
+use std::collections::BTreeMap;
+
+/// A store in memory, for tests and for runs without a folder. Tests can make its calls fail.
+#[derive(Drop)]
+pub struct Memory {
+    hash: HashKind,
+    objects: BTreeMap<ObjectId, (Kind, Bytes)>,
+    slots: BTreeMap<FullName, Slot>,
+    ghost kinds: { AreRefsOfKind hash (refs_of slots) } by { AreRefsOfKind-prop hash (refs_of slots) },
+    broken_objects: Vec<ObjectId>,
+    broken_names: Vec<FullName>,
+    is_listing_broken: bool,
+    /// The calls of `write` and `apply` so far.
+    calls: u64,
+    /// Which of these calls fail, counted from 1.
+    failing: Vec<u64>,
+    faults: u64,
+}
+
+impl Memory {
+    ghost use Rattle.gx_store.specs.Memory.{memory_state};
+    ghost use Rattle.gx_store.specs.State.{stored};
+    ghost use Rattle.gx_store.specs.Change.{applied, HaveDistinctNames};
+    ghost use Rattle.gx_store.specs.Calls.{calls_of, no_calls, is_due, counted, with_due};
+    ghost use Rattle.gx_store.specs.Breaks.{Fails, fresh, with_broken_object, with_broken_name, with_broken_listing, with_object_put};
+
+    /// A store of a new repository: without objects, and with a `HEAD` whose branch is not there yet.
+    #[tactic(auto, using(crate::proofs::KindLemmas::fresh_of_kind), unfolding(crate::specs::Memory::memory_state))]
+    pub fn new(alloc: Global, hash: HashKind) -> Result<Memory, NoMemory>
+        ensures state { IfOk result (λ store. memory_state store ≡ fresh hash) }
+        ensures calls { IfOk result (λ store. calls_of store ≡ no_calls) }
+    {
+        Ok(Memory {
+            hash,
+            objects: BTreeMap::new(alloc),
+            slots: slots::start(alloc)?,
+            broken_objects: Vec::new(alloc),
+            broken_names: Vec::new(alloc),
+            is_listing_broken: false,
+            calls: 0,
+            failing: Vec::new(alloc),
+            faults: 0,
+        })
+    }
+
+    /// From now on the object can't be read.
+    #[tactic(auto, unfolding(crate::specs::Memory::memory_state))]
+    pub fn break_object(&mut self, id: ObjectId) -> Result<(), NoMemory>
+        ensures ok { OnOk result (memory_state self.new ≡ with_broken_object id (memory_state self.old)) }
+        ensures err { OnErr result (memory_state self.new ≡ memory_state self.old) }
+        ensures calls { calls_of self.new ≡ calls_of self.old }
+    {
+        self.broken_objects.push(id)?;
+        Ok(())
+    }
+
+    /// From now on the reference and its log can't be read.
+    #[tactic(auto, unfolding(crate::specs::Memory::memory_state))]
+    pub fn break_name(&mut self, name: FullName) -> Result<(), NoMemory>
+        ensures ok { OnOk result (memory_state self.new ≡ with_broken_name name (memory_state self.old)) }
+        ensures err { OnErr result (memory_state self.new ≡ memory_state self.old) }
+        ensures calls { calls_of self.new ≡ calls_of self.old }
+    {
+        self.broken_names.push(name)?;
+        Ok(())
+    }
+
+    /// From now on names can't be listed.
+    #[tactic(auto, unfolding(crate::specs::Memory::memory_state))]
+    pub fn break_listing(&mut self)
+        ensures state { memory_state self.new ≡ with_broken_listing (memory_state self.old) }
+        ensures calls { calls_of self.new ≡ calls_of self.old }
+    {
+        self.is_listing_broken = true;
+    }
+
+    /// From now on there are these bytes at the id, whatever was there, and whatever the id is the digest of.
+    #[tactic(auto, unfolding(crate::specs::Memory::memory_state))]
+    pub fn put_raw(
+        &mut self,
+        alloc: Global,
+        id: ObjectId,
+        kind: Kind,
+        bytes: &[u8],
+    ) -> Result<(), NoMemory>
+        ensures ok { OnOk result (memory_state self.new ≡ with_object_put id (kind, bytes.now) (memory_state self.old)) }
+        ensures err { OnErr result (memory_state self.new ≡ memory_state self.old) }
+        ensures calls { calls_of self.new ≡ calls_of self.old }
+    {
+        let bytes = Bytes::from_slice(alloc, bytes)?;
+        maps::put_object(&mut self.objects, id, kind, bytes)
+    }
+
+    /// The nth of the calls of `write` and `apply` fails and changes nothing. They are counted from 1, and from the start.
+    #[tactic(auto, unfolding(crate::specs::Memory::memory_state))]
+    pub fn fail_write(&mut self, nth: u64) -> Result<(), NoMemory>
+        ensures state { memory_state self.new ≡ memory_state self.old }
+        ensures ok { OnOk result (calls_of self.new ≡ with_due nth (calls_of self.old)) }
+        ensures err { OnErr result (calls_of self.new ≡ calls_of self.old) }
+    {
+        self.failing.push(nth)?;
+        Ok(())
+    }
+
+    /// Counts a call, and tells whether it is one that fails. If so, the fault is counted too.
+    #[tactic(auto, unfolding(crate::specs::Memory::memory_state))]
+    fn fails_now(&mut self) -> bool
+        ensures fails { Fails result (memory_state self.old) (memory_state self.new) }
+        ensures due { result ≡ is_due (calls_of self.old) }
+        ensures calls { calls_of self.new ≡ counted (calls_of self.old) }
+        ensures hash { (memory_state self.new).hash ≡ (memory_state self.old).hash }
+    {
+        self.calls = self.calls.saturating_add(1);
+        let fails = self.failing.contains(&self.calls);
+        if fails {
+            self.faults = self.faults.saturating_add(1);
+        }
+        fails
+    }
+
+    /// Stores an object, unless its id is there.
+    #[tactic(auto, unfolding(crate::specs::Memory::memory_state))]
+    fn store(
+        &mut self,
+        alloc: Global,
+        id: ObjectId,
+        kind: Kind,
+        bytes: &[u8],
+    ) -> Result<(), NoMemory>
+        ensures ok { OnOk result (memory_state self.new ≡ stored id (kind, bytes.now) (memory_state self.old)) }
+        ensures err { OnErr result (memory_state self.new ≡ memory_state self.old) }
+        ensures calls { calls_of self.new ≡ calls_of self.old }
+    {
+        if maps::has_object(&self.objects, &id) {
+            return Ok(());
+        }
+        let bytes = Bytes::from_slice(alloc, bytes)?;
+        maps::put_object(&mut self.objects, id, kind, bytes)
+    }
+
+    /// Makes all the changes, or none.
+    #[tactic(auto, unfolding(crate::specs::Memory::memory_state))]
+    fn change(&mut self, alloc: Global, changes: &[RefChange]) -> Result<(), NoMemory>
+        requires names { HaveDistinctNames changes.now }
+        requires kinds { AreChangesOfKind (memory_state self.old).hash changes.now }
+        ensures ok { OnOk result (memory_state self.new ≡ applied changes.now (memory_state self.old)) }
+        ensures err { OnErr result (memory_state self.new ≡ memory_state self.old) }
+        ensures calls { calls_of self.new ≡ calls_of self.old }
+    {
+        slots::change(alloc, &mut self.slots, changes)
+    }
+}
+
+impl Meanings for Memory {
+    ghost use Rattle.gx_store.specs.Memory.{memory_state};
+
+    ghost state = { memory_state };
+}
+
+#[tactic(auto, unfolding(crate::specs::Memory::memory_state))]
+impl Objects for Memory {
+    ghost use Rattle.gx_store.specs.Memory.{memory_state};
+    ghost use Rattle.gx_hash.specs.ObjectId.{object_id};
+    ghost use Rattle.gx_object.specs.Kind.{kind_name};
+    ghost use Rattle.gx_store.specs.State.{Becomes, HasCause, IfFault, stored};
+    ghost use Rattle.gx_store.specs.Calls.{calls_of, is_due, counted, is_fault};
+
+    fn hash_kind(&self) -> HashKind {
+        self.hash
+    }
+
+    fn read(&self, _alloc: Global, id: &ObjectId) -> Result<Option<(Kind, Bytes)>, StoreError> {
+        if self.broken_objects.contains(id) {
+            return Err(StoreError::Fault {
+                what: What::Object(*id),
+            });
+        }
+        Ok(maps::object_at(&self.objects, id)?)
+    }
+
+    fn header(&self, _alloc: Global, id: &ObjectId) -> Result<Option<Header>, StoreError> {
+        if self.broken_objects.contains(id) {
+            return Err(StoreError::Fault {
+                what: What::Object(*id),
+            });
+        }
+        Ok(maps::header_at(&self.objects, id))
+    }
+
+    fn exists(&self, _alloc: Global, id: &ObjectId) -> Result<bool, StoreError> {
+        if self.broken_objects.contains(id) {
+            return Err(StoreError::Fault {
+                what: What::Object(*id),
+            });
+        }
+        Ok(maps::has_object(&self.objects, id))
+    }
+
+    #[tactic(auto, using(crate::proofs::Becoming::becomes))]
+    fn write(
+        &mut self,
+        alloc: Global,
+        id: ObjectId,
+        kind: Kind,
+        bytes: &[u8],
+    ) -> Result<(), StoreError>
+        requires { id ≡ object_id (memory_state self.old).hash (kind_name kind) bytes.now }
+        ensures ok { OnOk result (Becomes (stored id (kind, bytes.now) (memory_state self.old)) (memory_state self.new)) }
+        ensures err { OnErr result (Becomes (memory_state self.old) (memory_state self.new)) }
+        ensures fault { IfFault result (HasCause (memory_state self.old) (memory_state self.new)) }
+        ensures due { is_fault result ≡ is_due (calls_of self.old) }
+        ensures calls { calls_of self.new ≡ counted (calls_of self.old) }
+    {
+        if self.fails_now() {
+            return Err(StoreError::Fault { what: What::Write });
+        }
+        Ok(self.store(alloc, id, kind, bytes)?)
+    }
+}
+
+#[tactic(auto, unfolding(crate::specs::Memory::memory_state))]
+impl References for Memory {
+    ghost use Rattle.std.specs.Prelude.{IsErrOf};
+    ghost use Rattle.gx_store.specs.Memory.{memory_state};
+    ghost use Rattle.gx_store.specs.State.{Becomes, HasCause, IfFault};
+    ghost use Rattle.gx_store.specs.Change.{applied, HaveDistinctNames, AfterFault};
+    ghost use Rattle.gx_store.specs.Calls.{calls_of, is_due, counted, is_fault};
+    ghost use Rattle.gx_store.specs.declared.error.StoreError.TheVariants.{NoMemory as no_memory};
+
+    fn find(&self, _alloc: Global, name: &FullName) -> Result<Option<Target>, StoreError> {
+        if self.broken_names.contains(name) {
+            return Err(StoreError::Fault {
+                what: What::Name(name.try_clone()?),
+            });
+        }
+        Ok(slots::target_at(&self.slots, name)?)
+    }
+
+    fn log(&self, alloc: Global, name: &FullName) -> Result<Option<Lines>, StoreError> {
+        if self.broken_names.contains(name) {
+            return Err(StoreError::Fault {
+                what: What::Name(name.try_clone()?),
+            });
+        }
+        Ok(slots::log_at(alloc, &self.slots, name)?)
+    }
+
+    fn log_exists(&self, _alloc: Global, name: &FullName) -> Result<bool, StoreError> {
+        if self.broken_names.contains(name) {
+            return Err(StoreError::Fault {
+                what: What::Name(name.try_clone()?),
+            });
+        }
+        Ok(slots::has_log(&self.slots, name))
+    }
+
+    fn find_conflict(
+        &self,
+        alloc: Global,
+        name: &FullName,
+    ) -> Result<Option<FullName>, StoreError> {
+        if self.is_listing_broken {
+            return Err(StoreError::Fault {
+                what: What::Listing,
+            });
+        }
+        Ok(conflict::conflict_of(alloc, &self.slots, name)?)
+    }
+
+    fn list(&self, alloc: Global, prefix: &[u8]) -> Result<Names, StoreError> {
+        if self.is_listing_broken {
+            return Err(StoreError::Fault {
+                what: What::Listing,
+            });
+        }
+        Ok(slots::names_of(alloc, &self.slots, prefix)?)
+    }
+
+    #[tactic(auto, using(crate::proofs::Becoming::becomes, crate::proofs::Becoming::after_fault))]
+    fn apply(&mut self, alloc: Global, changes: &[RefChange]) -> Result<(), StoreError>
+        requires names { HaveDistinctNames changes.now }
+        requires kinds { AreChangesOfKind (memory_state self.old).hash changes.now }
+        ensures ok { OnOk result (Becomes (applied changes.now (memory_state self.old)) (memory_state self.new)) }
+        ensures no_memory { IsErrOf result no_memory → Becomes (memory_state self.old) (memory_state self.new) }
+        ensures fault { IfFault result (λ fault. HasCause (memory_state self.old) (memory_state self.new) fault
+            × AfterFault changes.now (memory_state self.old) (memory_state self.new)) }
+        ensures whole { OnErr result (Becomes (memory_state self.old) (memory_state self.new)) }
+        ensures due { is_fault result ≡ is_due (calls_of self.old) }
+        ensures calls { calls_of self.new ≡ counted (calls_of self.old) }
+    {
+        if self.fails_now() {
+            return Err(StoreError::Fault { what: What::Write });
+        }
+        Ok(self.change(alloc, changes)?)
+    }
+}
+
+impl Store for Memory {}
+
+#[cfg(test)]
+mod tests;

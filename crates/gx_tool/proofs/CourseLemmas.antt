@@ -1,0 +1,288 @@
+-- A run goes on by one request, or ends.
+use Rattle.std.proofs.Common.{◌≡◌, ◌∙◌, sym, ap, refl, subst, ℕ, ◌+◌, ◌≤◌, ◌<◌, List, [], ◌∷◌, ◌++◌, length, Option, None, arith, append_assoc, length-append, Bool, true, false, inl, inr}
+use Rattle.std.specs.Prelude.{◌&&◌}
+use Rattle.std.specs.List.{flat_map, AllByRecursion}
+use Rattle.std.proofs.lemmas.List.{append-nil}
+use Rattle.std.proofs.lemmas.List.Folds.{list_all-append}
+use Rattle.std.proofs.lemmas.Grind.{flat_map-append}
+use Rattle.gx_tool.specs.declared.reply.Reply.{Reply}
+use Rattle.gx_tool.specs.declared.status.Status.{Status}
+use Rattle.gx_tool.specs.declared.status.Status.TheVariants.{Done, Refusals, Malformed, ReadFault, WriteFault, NoMemory, StoreFault, TooLong}
+use Rattle.gx_store.specs.State.{StoreState}
+use Rattle.gx_store.specs.Faults.{Rose}
+use Rattle.gx_store.specs.Outside.{Takes, IsEnd, Writes}
+use Rattle.gx_script.specs.declared.request.Request.{Request}
+use Rattle.gx_script.specs.declared.request.Request.TheVariants.{Commit}
+use Rattle.gx_script.specs.Spelling.{spelling, ended, commit_line}
+use Rattle.gx_script.specs.Script.{IsRequest, Begins}
+use Rattle.gx_script.specs.Reading.{Reading, Moves, Stays, Overruns, BadAt, Anything}
+use Rattle.gx_tool.specs.Machine.{Step, Run, Fails}
+use Rattle.gx_tool.specs.Reply.{texts, reply_text, all_accepted, is_accepted}
+use Rattle.gx_tool.specs.declared.execute.ExecuteError.{ExecuteError}
+use Rattle.gx_tool.specs.declared.execute.ExecuteError.TheVariants as no_reply
+use Rattle.gx_store.specs.declared.error.What.{What}
+use Rattle.gx_tool.specs.Course.{Moment, Course, Ends, Served, taken_count, GotNoReply, WritesFront}
+use Rattle.gx_tool.proofs.OutsideLemmas.{takes_none, takes_then, writes_none, writes_then, rose_before}
+
+-- the run so far, at the start of a turn
+pub record SoFar (limit : ℕ) (start now : Moment) (reading : Reading) (accepted : Bool) : Type 0 where
+  pub requests : List Request
+  pub replies : List Reply
+  pub course : Course start now requests replies reading.held (texts replies) now.store
+  pub room : taken_count requests reading.held + reading.room ≡ limit
+  pub all : all_accepted replies ≡ accepted
+  pub fine : reading.failed ≡ None
+  pub source_later : start.source_faults ≤ now.source_faults
+  pub sink_later : start.sink_faults ≤ now.sink_faults
+
+run_more : (old mid new : StoreState) (requests : List Request) (replies : List Reply) (request : Request) (reply : Reply) → Run old requests replies mid → Step mid request reply new → Run old (requests ++ request ∷ []) (replies ++ reply ∷ []) new
+run_more old mid new [] [] request reply h s = (new, subst (λ o. Step o request reply new) h s, refl)
+run_more old mid new [] (r ∷ rs) request reply h s = absurd h
+run_more old mid new (q ∷ qs) [] request reply h s = absurd h
+run_more old mid new (q ∷ qs) (r ∷ rs) request reply h s = (h.0, h.1, run_more h.0 mid new qs rs request reply h.2 s)
+
+each_more : (requests : List Request) (request : Request) → AllByRecursion IsRequest requests → IsRequest request → AllByRecursion IsRequest (requests ++ request ∷ [])
+each_more [] request h r = (r, tt)
+each_more (q ∷ qs) request h r = (h.0, each_more qs request h.1 r)
+
+pub spellings_more : (requests : List Request) (request : Request) → flat_map spelling (requests ++ request ∷ []) ≡ flat_map spelling requests ++ spelling request
+spellings_more requests request = flat_map-append spelling requests (request ∷ []) ∙ ap (λ l. flat_map spelling requests ++ l) (append-nil (spelling request))
+
+texts_more : (replies : List Reply) (reply : Reply) → texts (replies ++ reply ∷ []) ≡ texts replies ++ reply_text reply
+texts_more replies reply = flat_map-append reply_text replies (reply ∷ []) ∙ ap (λ l. texts replies ++ l) (append-nil (reply_text reply))
+
+and_true : (b : Bool) → (b && true) ≡ b
+and_true true = refl
+and_true false = refl
+
+accepted_more : (replies : List Reply) (reply : Reply) → all_accepted (replies ++ reply ∷ []) ≡ (all_accepted replies && is_accepted reply)
+accepted_more replies reply = list_all-append is_accepted replies (reply ∷ []) ∙ ap (λ b. all_accepted replies && b) (and_true (is_accepted reply))
+
+-- the bytes of a request move from what is held to what was run
+split_more : (done held taken text held' : List ℕ) → held ++ taken ≡ text ++ held' → (done ++ held) ++ taken ≡ (done ++ text) ++ held'
+split_more done held taken text held' e = append_assoc done held taken ∙ ap (λ l. done ++ l) e ∙ sym (append_assoc done text held')
+
+pub so_far_more : (limit : ℕ) (start now next : Moment) (old new : Reading) (accepted : Bool) (block : Request) (reply : Reply)
+    → SoFar limit start now old accepted → IsRequest block → Moves old new now.left next.left (spelling block)
+    → Step now.store block reply next.store → Writes now.written next.written (reply_text reply)
+    → now.source_faults ≤ next.source_faults → now.sink_faults ≤ next.sink_faults
+    → SoFar limit start next new (accepted && is_accepted reply)
+so_far_more limit start now next old new accepted block reply s fits m step w source sink =
+    let whole : flat_map spelling (s.requests ++ block ∷ []) ++ new.held ≡ (flat_map spelling s.requests ++ old.held) ++ m.taken =
+    ap (λ l. l ++ new.held) (spellings_more s.requests block) ∙ sym (split_more (flat_map spelling s.requests) old.held m.taken (spelling block) new.held m.split) in
+    record {
+      requests = s.requests ++ block ∷ [];
+      replies = s.replies ++ reply ∷ [];
+      course = record {
+        takes = subst (Takes start.left next.left) (sym whole) (takes_then start.left now.left next.left (flat_map spelling s.requests ++ old.held) m.taken s.course.takes m.takes);
+        each = each_more s.requests block s.course.each fits;
+        run = run_more start.store now.store next.store s.requests s.replies block reply s.course.run step;
+        writes = subst (Writes start.written next.written) (sym (texts_more s.replies reply)) (writes_then start.written now.written next.written (texts s.replies) (reply_text reply) s.course.writes w);
+      };
+      room = omega (arith, ap length whole ∙ length-append (flat_map spelling s.requests ++ old.held) m.taken, m.room, s.room);
+      all = accepted_more s.replies reply ∙ ap (λ b. b && is_accepted reply) s.all;
+      fine = m.failed ∙ s.fine;
+      source_later = omega (arith, s.source_later);
+      sink_later = omega (arith, s.sink_later);
+    }
+
+pub so_far_first : (limit : ℕ) (m : Moment) → SoFar limit m m (record { held = []; room = limit; newlines = 0; failed = None }) true
+so_far_first limit m = record {
+  requests = [];
+  replies = [];
+  course = record { takes = takes_none m.left; each = tt; run = refl; writes = writes_none m.written };
+  room = omega arith;
+  all = refl;
+  fine = refl;
+  source_later = omega arith;
+  sink_later = omega arith;
+}
+
+-- more bytes were taken, and nothing was written
+course_taken : (start now next : Moment) (requests : List Request) (replies : List Reply) (held taken out : List ℕ) (store : StoreState) → Course start now requests replies held out store → Takes now.left next.left taken → next.written ≡ now.written → Course start next requests replies (held ++ taken) out store
+course_taken start now next requests replies held taken out store c t same = record {
+  takes = subst (Takes start.left next.left) (append_assoc (flat_map spelling requests) held taken) (takes_then start.left now.left next.left (flat_map spelling requests ++ held) taken c.takes t);
+  each = c.each;
+  run = c.run;
+  writes = subst (λ w. Writes start.written w out) (sym same) c.writes;
+}
+
+count_taken : (requests : List Request) (held taken : List ℕ) → taken_count requests (held ++ taken) ≡ taken_count requests held + length taken
+count_taken requests held taken = ap length (sym (append_assoc (flat_map spelling requests) held taken)) ∙ length-append (flat_map spelling requests ++ held) taken
+
+-- the reader's end: the script was read to its end
+at_end : (limit : ℕ) (start now next : Moment) (old new : Reading) (accepted : Bool) (status : Status)
+    → SoFar limit start now old accepted → Moves old new now.left next.left [] → new.held ≡ [] → IsEnd next.left
+    → next.written ≡ now.written → next.store ≡ now.store
+    → ((replies : List Reply) (rest out : List ℕ) (requests : List Request) → taken_count requests rest ≤ limit → rest ≡ [] → out ≡ texts replies → all_accepted replies ≡ accepted → Ends limit start next requests replies rest out now.store status)
+    → Served limit start next status
+at_end limit start now next old new accepted status s m none end written store ends =
+    let rest : List ℕ = old.held ++ m.taken in
+    record {
+      requests = s.requests;
+      replies = s.replies;
+      rest = rest;
+      out = texts s.replies;
+      store = now.store;
+      course = course_taken start now next s.requests s.replies old.held m.taken (texts s.replies) now.store s.course m.takes written;
+      ends = ends s.replies rest (texts s.replies) s.requests (omega (arith, count_taken s.requests old.held m.taken, s.room, m.room)) (m.split ∙ none) refl s.all;
+    }
+
+pub ends_done : (limit : ℕ) (start now next : Moment) (old new : Reading)
+    → SoFar limit start now old true → Moves old new now.left next.left [] → new.held ≡ [] → IsEnd next.left
+    → next.written ≡ now.written → next.store ≡ now.store → Served limit start next Done
+ends_done limit start now next old new s m none end written store =
+    at_end limit start now next old new true Done s m none end written store (λ replies rest out requests few empty all accepted. (few, empty, end, all, store, accepted))
+
+pub ends_refusals : (limit : ℕ) (start now next : Moment) (old new : Reading)
+    → SoFar limit start now old false → Moves old new now.left next.left [] → new.held ≡ [] → IsEnd next.left
+    → next.written ≡ now.written → next.store ≡ now.store → Served limit start next Refusals
+ends_refusals limit start now next old new s m none end written store =
+    at_end limit start now next old new false Refusals s m none end written store (λ replies rest out requests few empty all accepted. (few, empty, end, all, store, accepted))
+
+-- the reader's ends within the limit
+stays_within : (limit : ℕ) (start now next : Moment) (old : Reading) (accepted : Bool) (status : Status) (P : List ℕ → Type 0)
+    → SoFar limit start now old accepted → Stays P old now.left next.left
+    → next.written ≡ now.written
+    → ((replies : List Reply) (rest out : List ℕ) (requests : List Request) → taken_count requests rest ≤ limit → P rest → out ≡ texts replies → Ends limit start next requests replies rest out now.store status)
+    → Served limit start next status
+stays_within limit start now next old accepted status P s m written ends =
+    record {
+      requests = s.requests;
+      replies = s.replies;
+      rest = old.held ++ m.taken;
+      out = texts s.replies;
+      store = now.store;
+      course = course_taken start now next s.requests s.replies old.held m.taken (texts s.replies) now.store s.course m.takes written;
+      ends = ends s.replies (old.held ++ m.taken) (texts s.replies) s.requests (omega (arith, count_taken s.requests old.held m.taken, s.room, m.room)) m.part refl;
+    }
+
+pub ends_malformed : (limit line : ℕ) (start now next : Moment) (old : Reading) (accepted : Bool)
+    → SoFar limit start now old accepted → Stays (BadAt old next.left line) old now.left next.left
+    → next.written ≡ now.written → next.store ≡ now.store → Served limit start next Malformed
+ends_malformed limit line start now next old accepted s m written store =
+    stays_within limit start now next old accepted Malformed (BadAt old next.left line) s m written (λ replies rest out requests few bad all. (few, (bad.0, bad.1), all, store))
+
+pub ends_read_fault : (limit : ℕ) (start now next : Moment) (old : Reading) (accepted : Bool)
+    → SoFar limit start now old accepted → Stays Begins old now.left next.left → Rose now.source_faults next.source_faults
+    → next.written ≡ now.written → next.store ≡ now.store → Served limit start next ReadFault
+ends_read_fault limit start now next old accepted s m rose written store =
+    stays_within limit start now next old accepted ReadFault Begins s m written (λ replies rest out requests few begins all. (few, begins, rose_before start.source_faults now.source_faults next.source_faults s.source_later rose, all, store))
+
+pub ends_no_memory : (limit : ℕ) (start now next : Moment) (old : Reading) (accepted : Bool)
+    → SoFar limit start now old accepted → Stays Anything old now.left next.left
+    → next.written ≡ now.written → next.store ≡ now.store → Served limit start next NoMemory
+ends_no_memory limit start now next old accepted s m written store =
+    stays_within limit start now next old accepted NoMemory Anything s m written (λ replies rest out requests few any all. (few, record { more = []; is = append-nil out ∙ all }, inl store))
+
+pub ends_too_long : (limit : ℕ) (start now next : Moment) (old : Reading) (accepted : Bool)
+    → SoFar limit start now old accepted → Overruns Begins old now.left next.left
+    → next.written ≡ now.written → next.store ≡ now.store → Served limit start next TooLong
+ends_too_long limit start now next old accepted s m written store =
+    record {
+      requests = s.requests;
+      replies = s.replies;
+      rest = old.held ++ (m.taken ++ m.last ∷ []);
+      out = texts s.replies;
+      store = now.store;
+      course = course_taken start now next s.requests s.replies old.held (m.taken ++ m.last ∷ []) (texts s.replies) now.store s.course m.takes written;
+      ends = (omega (arith, count_taken s.requests old.held (m.taken ++ m.last ∷ []), length-append m.taken (m.last ∷ []), s.room, m.room), record { within = old.held ++ m.taken; last = m.last; is = sym (append_assoc old.held m.taken (m.last ∷ [])); begins = m.part }, refl, store);
+    }
+
+-- a whole request was read, and got no reply
+read_one : (limit : ℕ) (start now next : Moment) (old new : Reading) (accepted : Bool) (block : Request) (error : ExecuteError) (status : Status)
+    → SoFar limit start now old accepted → IsRequest block → Moves old new now.left next.left (spelling block) → Fails now.store block next.store error
+    → next.written ≡ now.written
+    → ((replies : List Reply) (rest out : List ℕ) (requests : List Request) → taken_count requests rest ≤ limit → GotNoReply now.store rest error next.store → out ≡ texts replies → Ends limit start next requests replies rest out now.store status)
+    → Served limit start next status
+read_one limit start now next old new accepted block error status s fits m fails written ends =
+    record {
+      requests = s.requests;
+      replies = s.replies;
+      rest = old.held ++ m.taken;
+      out = texts s.replies;
+      store = now.store;
+      course = course_taken start now next s.requests s.replies old.held m.taken (texts s.replies) now.store s.course m.takes written;
+      ends = ends s.replies (old.held ++ m.taken) (texts s.replies) s.requests (omega (arith, count_taken s.requests old.held m.taken, s.room, m.room)) (record { request = block; more = new.held; fits = fits; is = m.split; fails = fails }) refl;
+    }
+
+pub ends_store : (limit : ℕ) (start now next : Moment) (old new : Reading) (accepted : Bool) (block : Request) (fault : What)
+    → SoFar limit start now old accepted → IsRequest block → Moves old new now.left next.left (spelling block)
+    → Fails now.store block next.store (no_reply.Store fault)
+    → next.written ≡ now.written → Served limit start next StoreFault
+ends_store limit start now next old new accepted block fault s fits m fails written =
+    read_one limit start now next old new accepted block (no_reply.Store fault) StoreFault s fits m fails written (λ replies rest out requests few none all. (few, all, (fault, none)))
+
+pub ends_store_memory : (limit : ℕ) (start now next : Moment) (old new : Reading) (accepted : Bool) (block : Request)
+    → SoFar limit start now old accepted → IsRequest block → Moves old new now.left next.left (spelling block)
+    → Fails now.store block next.store no_reply.NoMemory
+    → next.written ≡ now.written → Served limit start next NoMemory
+ends_store_memory limit start now next old new accepted block s fits m fails written =
+    read_one limit start now next old new accepted block no_reply.NoMemory NoMemory s fits m fails written (λ replies rest out requests few none all. (few, record { more = []; is = append-nil out ∙ all }, inr none))
+
+-- the request was run, and a front of its reply was written
+wrote_front : (limit : ℕ) (start now next : Moment) (old new : Reading) (accepted : Bool) (block : Request) (reply : Reply) (status : Status)
+    → SoFar limit start now old accepted → IsRequest block → Moves old new now.left next.left (spelling block)
+    → Step now.store block reply next.store → (w : WritesFront now.written next.written (reply_text reply))
+    → ((requests : List Request) (before : List Reply) → taken_count requests new.held ≤ limit → Ends limit start next requests (before ++ reply ∷ []) new.held (texts before ++ w.part) next.store status)
+    → Served limit start next status
+wrote_front limit start now next old new accepted block reply status s fits m step w ends =
+    let whole : flat_map spelling (s.requests ++ block ∷ []) ++ new.held ≡ (flat_map spelling s.requests ++ old.held) ++ m.taken =
+    ap (λ l. l ++ new.held) (spellings_more s.requests block) ∙ sym (split_more (flat_map spelling s.requests) old.held m.taken (spelling block) new.held m.split) in
+    record {
+      requests = s.requests ++ block ∷ [];
+      replies = s.replies ++ reply ∷ [];
+      rest = new.held;
+      out = texts s.replies ++ w.part;
+      store = next.store;
+      course = record {
+        takes = subst (Takes start.left next.left) (sym whole) (takes_then start.left now.left next.left (flat_map spelling s.requests ++ old.held) m.taken s.course.takes m.takes);
+        each = each_more s.requests block s.course.each fits;
+        run = run_more start.store now.store next.store s.requests s.replies block reply s.course.run step;
+        writes = writes_then start.written now.written next.written (texts s.replies) w.part s.course.writes w.writes;
+      };
+      ends = ends (s.requests ++ block ∷ []) s.replies (omega (arith, ap length whole ∙ length-append (flat_map spelling s.requests ++ old.held) m.taken, m.room, s.room));
+    }
+
+pub ends_write_fault : (limit : ℕ) (start now next : Moment) (old new : Reading) (accepted : Bool) (block : Request) (reply : Reply)
+    → SoFar limit start now old accepted → IsRequest block → Moves old new now.left next.left (spelling block)
+    → Step now.store block reply next.store → WritesFront now.written next.written (reply_text reply)
+    → Rose now.sink_faults next.sink_faults → Served limit start next WriteFault
+ends_write_fault limit start now next old new accepted block reply s fits m step w rose =
+    wrote_front limit start now next old new accepted block reply WriteFault s fits m step w (λ requests before few. (few, rose_before start.sink_faults now.sink_faults next.sink_faults s.sink_later rose, record { before = before; last = reply; part = w.part; more = w.more; all = refl; written = refl; text = w.is }, refl))
+
+pub ends_sink_memory : (limit : ℕ) (start now next : Moment) (old new : Reading) (accepted : Bool) (block : Request) (reply : Reply)
+    → SoFar limit start now old accepted → IsRequest block → Moves old new now.left next.left (spelling block)
+    → Step now.store block reply next.store → WritesFront now.written next.written (reply_text reply)
+    → Served limit start next NoMemory
+ends_sink_memory limit start now next old new accepted block reply s fits m step w =
+    wrote_front limit start now next old new accepted block reply NoMemory s fits m step w (λ requests before few. (few, record { more = w.more; is = append_assoc (texts before) w.part w.more ∙ ap (λ l. texts before ++ l) w.is ∙ sym (texts_more before reply) }, inl refl))
+
+-- no memory for a reader
+pub ends_at_once : (limit : ℕ) (m : Moment) → Served limit m m NoMemory
+ends_at_once limit m = record {
+  requests = [];
+  replies = [];
+  rest = [];
+  out = [];
+  store = m.store;
+  course = record { takes = takes_none m.left; each = tt; run = refl; writes = writes_none m.written };
+  ends = (omega arith, record { more = []; is = refl }, inl refl);
+}
+
+-- the request was run, and no memory was left for its reply
+pub ends_print_memory : (limit : ℕ) (start now next : Moment) (old new : Reading) (accepted : Bool) (block : Request) (reply : Reply)
+    → SoFar limit start now old accepted → IsRequest block → Moves old new now.left next.left (spelling block)
+    → Step now.store block reply next.store → next.written ≡ now.written → Served limit start next NoMemory
+ends_print_memory limit start now next old new accepted block reply s fits m step written =
+    ends_sink_memory limit start now next old new accepted block reply s fits m step (record { part = []; more = reply_text reply; is = refl; writes = subst (λ w. Writes now.written w []) (sym written) (writes_none now.written) })
+
+some_ended : (line rest : List ℕ) → 0 < length (ended line ++ rest)
+some_ended line rest = omega (arith, length-append (ended line) rest, length-append line (10 ∷ []))
+
+pub spelling_some : (request : Request) → 0 < length (spelling request)
+unfolding spelling
+spelling_some (Commit asked) = some_ended (commit_line asked.name) _
+
+pub turn_smaller : (old new : Reading) (left left' : Option (List ℕ)) (block : Request) → Moves old new left left' (spelling block) → length new.held + new.room < length old.held + old.room
+turn_smaller old new left left' block m = omega (arith, ap length m.split, length-append old.held m.taken, length-append (spelling block) new.held, m.room, spelling_some block)
