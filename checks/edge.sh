@@ -4,8 +4,14 @@ set -uo pipefail
 . "$(dirname -- "$(readlink -f -- "${BASH_SOURCE[0]}")")/lib.sh"
 
 nothing=$scratch/nothing
-: >"$nothing"
+usage=$scratch/usage
+no_repository=$scratch/no-repository
 first=$top/examples/first-commit
+: >"$nothing"
+echo "not a repository" >"$no_repository"
+
+# Where the program has to be built, `gx` tells of it on standard error, which is looked at below.
+"$top/gx" --version >/dev/null || exit 1
 
 # with_input FILE WORD..: the program with these words reads the file. What it says on standard error is kept.
 with_input() {
@@ -14,13 +20,19 @@ with_input() {
     "$top/gx" "$@" <"$input" 2>"$scratch/said"
 }
 
-# says NAME TEXT: the last program said the text on standard error.
+# with_rest WORD..: the program with these words reads a script; what it leaves of that is printed behind its replies.
+with_rest() {
+    local status=0
+    {
+        "$top/gx" "$@" 2>"$scratch/said" || status=$?
+        cat
+    } <"$first.script"
+    return "$status"
+}
+
+# says NAME WANTED: the last program said the bytes of the file WANTED on standard error.
 says() {
-    if grep -q -F -- "$2" "$scratch/said"; then
-        passes "$1"
-    else
-        fails "$1"
-    fi
+    same "$1 says what it must" "$2" "$scratch/said"
 }
 
 # informs WORD: the word alone is answered on standard output.
@@ -32,6 +44,35 @@ informs() {
     else
         fails "$1 ends with $status, or prints nothing"
     fi
+    says "$1" "$nothing"
+}
+
+# explains WORD..: the usage has each of these words, with a space or an end of the line on both sides.
+explains() {
+    local word missing=
+    for word; do
+        grep -q -E -- "(^| )$word( |\$)" "$usage" || missing+=" $word"
+    done
+    if [[ -z $missing ]]; then
+        passes "the usage has $*"
+    else
+        fails "the usage lacks$missing"
+    fi
+}
+
+# rejects NAME STATUS WANTED WORD..: the words end with the status, and with the bytes of the file WANTED on standard
+# error. Nothing is read, and nothing printed.
+rejects() {
+    local name=$1 status=$2 wanted=$3
+    shift 3
+    runs "$name" "$status" "$first.script" with_rest "$@"
+    says "$name" "$wanted"
+}
+
+# applies NAME STATUS WANTED FILE: the script in the file is run, and standard error hears nothing.
+applies() {
+    runs "$1" "$2" "$3" with_input "$4" --memory apply
+    says "$1" "$nothing"
 }
 
 # ends NAME STATUS COMMAND..: the command ends with the status, whatever it prints.
@@ -46,30 +87,78 @@ ends() {
     fi
 }
 
-informs --help
 informs --version
-runs "no words" 6 "$nothing" with_input "$first.script"
-runs "a store alone" 6 "$nothing" with_input "$first.script" --memory
-runs "an unknown word" 6 "$nothing" with_input "$first.script" --memory forget
-runs "a word too many" 6 "$nothing" with_input "$first.script" --memory apply again
-runs "another store" 9 "$nothing" with_input "$first.script" nowhere apply
-says "another store is no repository" "not a repository"
+informs --help
+cp -- "$scratch/printed" "$usage"
+explains --memory apply --help --version
+explains status 0 1 2 3 4 5 6 7 8 9
 
-runs "the empty script" 0 "$nothing" with_input "$nothing" --memory apply
+rejects "no words" 6 "$usage"
+rejects "a store alone" 6 "$usage" --memory
+rejects "an unknown word" 6 "$usage" --memory forget
+rejects "--help behind a store" 6 "$usage" --memory --help
+rejects "a word too many" 6 "$usage" --memory apply again
+rejects "a word that is not UTF-8" 6 "$usage" $'\xff' apply
+rejects "another store" 9 "$no_repository" nowhere apply
+rejects "no store" 9 "$no_repository" apply
+rejects "an empty word for the store" 9 "$no_repository" "" apply
+rejects "a word behind --help" 9 "$no_repository" --help apply
+rejects "a word behind --version" 9 "$no_repository" --version apply
+
+unheard() {
+    "$top/gx" "$@" <"$first.script" 2>&-
+}
+runs "no words, with standard error closed," 6 "$nothing" unheard
+runs "another store, with standard error closed," 9 "$nothing" unheard nowhere apply
+
+applies "the empty script" 0 "$nothing" "$nothing"
 head -n 4 -- "$first.script" >"$scratch/cut"
-runs "a script that is cut off" 2 "$nothing" with_input "$scratch/cut" --memory apply
+applies "a script that is cut off" 2 "$nothing" "$scratch/cut"
 { cat -- "$first.script"; echo; } >"$scratch/behind"
-runs "an empty line behind a request" 2 "$first.expected" with_input "$scratch/behind" --memory apply
+applies "an empty line behind a request" 2 "$first.expected" "$scratch/behind"
 
 # A folder can be opened and not read.
-runs "a source that fails" 3 "$nothing" with_input "$scratch" --memory apply
+applies "a source that fails" 3 "$nothing" "$scratch"
+without_input() {
+    "$top/gx" --memory apply <&-
+}
+runs "a closed standard input" 3 "$nothing" without_input
+
+without_output() {
+    with_input "$first.script" "$@" >&-
+}
+ends "a closed standard output" 4 without_output --memory apply
+ends "--help, with standard output closed," 4 without_output --help
+ends "--version, with standard output closed," 4 without_output --version
+
+# The one reader of a pipe is closed before the program starts.
+to_nobody() (
+    mkfifo -- "$scratch/pipe"
+    exec 3<>"$scratch/pipe" 4>"$scratch/pipe" 3>&-
+    with_input "$first.script" --memory apply >&4
+)
+ends "a pipe that nobody reads" 4 to_nobody
+
 if [[ -w /dev/full ]]; then
     to_full() {
-        with_input "$first.script" --memory apply >/dev/full
+        with_input "$first.script" "$@" >/dev/full
     }
-    ends "a sink that fails" 4 to_full
+    ends "a sink that fails" 4 to_full --memory apply
+    ends "--help, to a sink that fails," 4 to_full --help
 else
-    skips "there is no /dev/full, so no write fails"
+    skips "there is no /dev/full, so no write finds its device full"
 fi
+
+# A message of 2^28 bytes, the most that a block may have, and less memory than that.
+large_message() {
+    head -n 3 -- "$first.script"
+    echo "message 268435456"
+    head -c 268435456 /dev/zero
+}
+in_little_memory() (
+    ulimit -v 200000
+    large_message 2>/dev/null | "$top/gx" --memory apply
+)
+runs "a message without memory for it" 5 "$nothing" in_little_memory
 
 report

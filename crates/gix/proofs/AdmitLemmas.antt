@@ -1,16 +1,19 @@
 -- Why a request is admitted or refused.
-use Rattle.std.proofs.Common.{◌≡◌, ◌∙◌, sym, ap, refl, subst, List, [], ◌∷◌, ℕ, Bool, true, false, true≢false, not, Option, Some, None, IfSome, IsSome, Contains, inl, inr, ◌⊎◌}
-use Rattle.std.specs.Prelude.{◌↔◌, IsTrue, IfNone}
+use Rattle.std.proofs.Common.{◌≡◌, ◌∙◌, sym, subst, List, ℕ, Bool, true, false, true≢false, Option, Some, None, IfSome, IsSome}
+use Rattle.std.specs.Prelude.{◌↔◌, IsTrue}
 use Rattle.std.specs.FinMap.{get}
 use Rattle.gx_store.specs.State.{RefState}
-use Rattle.gx_store.specs.Conflict.{Conflict, IsFree}
 use Rattle.gx_store.specs.declared.target.Target.{Target}
 use Rattle.gix.specs.CommitRequest.{CommitRequest}
-use Rattle.gix.specs.CommitEdits.{IsSymbolic, IsDirect, IsSupported, IsAdmitted, is_served_request, has_no_empty_name}
+use Rattle.gix.specs.CommitEdits.{IsSymbolic, IsNotSymbolic, IsSupported, is_served_request}
 
-pub direct : (r : CommitRequest) (references : Option RefState) (end : Option Target) (symbolic : Bool) → IfSome references (λ refs. end ≡ get refs.targets r.reference) → (IsTrue symbolic ↔ IsSymbolic end) → symbolic ≡ false → IsDirect r references
+direct : (r : CommitRequest) (references : Option RefState) (end : Option Target) (symbolic : Bool) → IfSome references (λ refs. end ≡ get refs.targets r.reference) → (IsTrue symbolic ↔ IsSymbolic end) → symbolic ≡ false → IsNotSymbolic r references
 direct r None end symbolic found is off = tt
 direct r (Some refs) end symbolic found is off = λ h. true≢false (sym (is.1 (subst IsSymbolic (sym found) h)) ∙ off)
+
+pub supported : (r : CommitRequest) (references : Option RefState) (end : Option Target) (served symbolic : Bool) → served ≡ is_served_request r → served ≡ true
+    → IfSome references (λ refs. end ≡ get refs.targets r.reference) → (IsTrue symbolic ↔ IsSymbolic end) → symbolic ≡ false → IsSupported r references
+supported r references end served symbolic of on found is off = record { served = sym of ∙ on; not_symbolic = direct r references end symbolic found is off }
 
 pub symbolic : (r : CommitRequest) (references : Option RefState) (end : Option Target) → IfSome references (λ refs. end ≡ get refs.targets r.reference) → IsSymbolic end → IfSome references (λ refs. IsSymbolic (get refs.targets r.reference))
 symbolic r None end found h = tt

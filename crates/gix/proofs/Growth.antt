@@ -1,14 +1,11 @@
 -- How a store goes on as objects are written to it.
-use Rattle.std.proofs.Common.{◌≡◌, ◌∙◌, ◌<◌, ◌≤◌, ◌+◌, ◌-◌, ◌^◌, min, sym, ap, refl, subst, List, [], ◌∷◌, ◌++◌, ℕ, length, take, arith, Option, Some, None}
+use Rattle.std.proofs.Common.{◌≡◌, ◌∙◌, ◌≤◌, sym, ap, refl, subst, List, [], ◌∷◌, ◌++◌, ℕ, arith, Option, Some, None}
 use Rattle.std.specs.Prelude.{option_map}
 use Rattle.gx_hash.specs.declared.kind.HashKind.{HashKind}
 use Rattle.gx_object.specs.declared.kind.Kind.{Kind}
 use Rattle.gx_store.specs.Content.{Content, with_objects, with_object, id_of}
-use Rattle.gx_store.specs.State.{StoreState, Becomes, HasCause, OfFault, all_stored}
+use Rattle.gx_store.specs.State.{StoreState, Becomes, all_stored}
 use Rattle.gx_store.specs.Faults.{Rose}
-use Rattle.gx_store.specs.declared.error.What.{What}
-use Rattle.gx_store.specs.declared.error.StoreError.{StoreError}
-use Rattle.gx_store.specs.declared.error.StoreError.TheVariants.{NoMemory, Fault}
 
 -- one change of a state after another
 pub becomes_then : (w s t : StoreState) → Becomes w s → Becomes s t → Becomes w t
@@ -32,13 +29,6 @@ pub all_stored-append : (xs ys : List (Kind × List ℕ)) (s : StoreState) → a
 all_stored-append xs ys s = ap {A = Option Content} {B = StoreState} (λ c. record s { content = c })
     (option_map-then (with_objects s.hash xs) (with_objects s.hash ys) (with_objects s.hash (xs ++ ys)) (with_objects-append s.hash xs ys) s.content)
 
-option_map-same : (f : Content → Content) → ((c : Content) → f c ≡ c) → (o : Option Content) → option_map f o ≡ o
-option_map-same f e None = refl
-option_map-same f e (Some c) = ap Some (e c)
-
-pub all_stored-none : (s : StoreState) → all_stored [] s ≡ s
-all_stored-none s = ap {A = Option Content} {B = StoreState} (λ c. record s { content = c }) (option_map-same (with_objects s.hash []) (λ c. refl) s.content)
-
 -- more objects are written to what some were written to
 pub stores_more : (xs ys : List (Kind × List ℕ)) (s t u : StoreState) → Becomes (all_stored xs s) t → Becomes (all_stored ys t) u → Becomes (all_stored (xs ++ ys) s) u
 stores_more xs ys s t u before after = subst (λ w. Becomes w u) (sym (all_stored-append xs ys s)) (record {
@@ -49,10 +39,3 @@ stores_more xs ys s t u before after = subst (λ w. Becomes w u) (sym (all_store
 -- a count that rose since the writing rose since before it
 pub rose_since : (a b c : ℕ) → a ≤ b → Rose b c → Rose a c
 rose_since a b c p q = omega arith
-
-pub cause_since : (xs : List (Kind × List ℕ)) (s t u : StoreState) (fault : What) → Becomes (all_stored xs s) t → HasCause t u fault → HasCause s u fault
-cause_since xs s t u fault b (is, rose) = (is, rose_since s.faults t.faults u.faults b.later rose)
-
-pub fault_since : (xs : List (Kind × List ℕ)) (s t u : StoreState) (e : StoreError) → Becomes (all_stored xs s) t → OfFault e (HasCause t u) → OfFault e (HasCause s u)
-fault_since xs s t u NoMemory b h = tt
-fault_since xs s t u (Fault fault) b h = cause_since xs s t u fault b h

@@ -1,6 +1,8 @@
 pub mod AdmitLemmas
+pub mod CauseLemmas
 pub mod CommitLemmas
 pub mod Growth
+pub mod MachineLemmas
 pub mod ServedLemmas
 pub mod SupportLemmas
 pub mod TopLevelLemmas

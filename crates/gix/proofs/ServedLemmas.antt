@@ -1,18 +1,22 @@
 -- Requests that are served put files at names.
-use Rattle.std.proofs.Common.{◌≡◌, ◌≢◌, ◌∙◌, sym, ap, refl, subst, List, [], ◌∷◌, ℕ, Bool, true, false, true≢false, not, ◌&&◌, ◌||◌, ◌==◌, Contains, Option}
+use Rattle.std.proofs.Common.{◌≡◌, ◌∙◌, sym, ap, refl, subst, List, [], ◌∷◌, ℕ, Bool, true, false, true≢false, not, ◌&&◌, ◌||◌, ◌==◌, Contains, Option}
 use Rattle.std.specs.Prelude.{codes, bytes_eq}
 use Rattle.gx_object.specs.Identity.{is_writable_identity}
 use Rattle.gx_store.specs.State.{RefState}
-use Rattle.std.specs.List.{list_all, list_any, AllByRecursion}
+use Rattle.std.specs.List.{list_all, AllByRecursion}
 use Rattle.std.proofs.lemmas.List.Folds.{list_all_at}
 use Rattle.gx_edit.specs.declared.path_edit.PathEdit.{PathEdit}
 use Rattle.gx_edit.specs.declared.path_edit.PathEdit.TheVariants.{File, Link, Module, Remove}
 use Rattle.gx_edit.specs.Path.{Path, IsName, components}
 use Rattle.gx_edit.proofs.ComponentLemmas.{components_one, components_some}
 use Rattle.gix.specs.CommitRequest.{CommitRequest}
-use Rattle.gix.specs.Support.{is_plain_byte, is_plain, is_empty, has_empty, is_single, is_served_path, is_served}
-use Rattle.gix.specs.CommitEdits.{IsAdmitted, is_served_request, has_no_empty_name, has_empty_name, is_nil}
+use Rattle.gix.specs.Support.{is_plain_byte, is_plain, is_empty, has_empty, is_served_path, is_served}
+use Rattle.gix.specs.CommitEdits.{IsAdmitted, has_empty_name, is_nil}
 use Rattle.gix.specs.TopLevel.{IsTopLevelFile}
+use Rattle.gx_hash.specs.declared.kind.HashKind.{HashKind}
+use Rattle.gx_edit.specs.PathMap.{no_paths, edited}
+use Rattle.gx_edit.specs.CanonicalTree.{Directory, StandsFor}
+use Rattle.gix.proofs.TopLevelLemmas.{files_stand, none_stands}
 
 and_left : (a b : Bool) → (a && b) ≡ true → a ≡ true
 and_left true b e = refl
@@ -78,3 +82,7 @@ admitted_files r references a = top_level_files r.edits served a.paths
     served = and_right (named && is_nil r.parents) (list_all is_served r.edits)
         (and_left (named && is_nil r.parents && list_all is_served r.edits) (is_writable_identity r.author)
         (and_left (named && is_nil r.parents && list_all is_served r.edits && is_writable_identity r.author) (is_writable_identity r.committer) a.supported.served))
+
+-- an admitted request has a canonical directory
+pub admitted_directory : (r : CommitRequest) (references : Option RefState) (hash : HashKind) → IsAdmitted r references → (directory : Directory) × StandsFor directory (edited hash no_paths r.edits)
+admitted_directory r references hash a = files_stand hash r.edits [] no_paths (admitted_files r references a) none_stands

@@ -1,10 +1,10 @@
 -- Directories of files alone, and what putting a file makes of one.
-use Rattle.std.proofs.Common.{◌≡◌, ◌≢◌, ◌∙◌, ◌<◌, ◌≤◌, ◌+◌, sym, ap, ap₂, refl, subst, List, [], ◌∷◌, ◌++◌, map, ℕ, length, take, drop, get_or, arith, append_assoc, Bool, true, false, true≢false, cond, ◌&&◌, ◌||◌, Option, Some, None, Contains, inl, inr, ◌⊎◌}
+use Rattle.std.proofs.Common.{◌≡◌, ◌≢◌, ◌∙◌, ◌<◌, ◌+◌, sym, ap, refl, subst, List, [], ◌∷◌, ◌++◌, map, ℕ, length, take, get_or, append_assoc, Bool, true, false, true≢false, cond, ◌&&◌, ◌||◌, Option, Some, None, inl, inr}
 use Rattle.std.specs.declared.cmp.Ordering.{Ordering}
 use Rattle.std.specs.declared.cmp.Ordering.TheVariants.{Less, Equal, Greater}
-use Rattle.std.specs.Ordering.{nat_cmp, match_ordering, ordering_reverse}
+use Rattle.std.specs.Ordering.{match_ordering, ordering_reverse}
 use Rattle.std.specs.Cmp.{tied_itself}
-use Rattle.std.specs.Cmp.Lexicographic.{slice_cmp, nat_list_cmp_total}
+use Rattle.std.specs.Cmp.Lexicographic.{nat_list_cmp_total}
 use Rattle.std.specs.FinMap.{slice_cmp-IsAntisymmetric, nat_cmp-IsAntisymmetric}
 use Rattle.std.specs.Str.{bytes_eq}
 use Rattle.std.specs.List.{AllByRecursion}
@@ -13,15 +13,14 @@ use Rattle.std.proofs.lemmas.List.{take_more, append-nil}
 use Rattle.std.proofs.lemmas.List.Elements.{All-from_recursion}
 use Rattle.gx_hash.specs.declared.kind.HashKind.{HashKind}
 use Rattle.gx_rules.specs.Name.{name_cmp}
-use Rattle.gx_object.specs.declared.kind.Kind.{Kind}
 use Rattle.gx_object.specs.declared.kind.Kind.TheVariants.{Blob}
 use Rattle.gx_store.specs.State.{StoreState, Becomes, all_stored}
 use Rattle.gx_edit.specs.declared.leaf.Leaf.{Leaf}
 use Rattle.gx_edit.specs.declared.path_edit.PathEdit.{PathEdit}
-use Rattle.gx_edit.specs.declared.path_edit.PathEdit.TheVariants.{File}
+use Rattle.gx_edit.specs.declared.path_edit.PathEdit.TheVariants.{File, Link, Module, Remove}
 use Rattle.gx_edit.specs.Path.{Path, IsName, components, path_eq, leads_to}
-use Rattle.gx_edit.specs.PathMap.{PathMap, put, no_paths, with_edit, edited, blobs_of, blobs_in}
-use Rattle.gx_edit.specs.CanonicalTree.{Directory, leaf_at, Follow, IsCanonical, IsBelow, StandsFor, entries_of}
+use Rattle.gx_edit.specs.PathMap.{PathMap, put, no_paths, with_edit, edited, blobs_of, blobs_in, file_mode}
+use Rattle.gx_edit.specs.CanonicalTree.{Directory, leaf_at, Follow, IsLeafMode, IsCanonical, IsBelow, StandsFor, entries_of}
 use Rattle.gx_edit.proofs.PathLemmas.{bytes_eq-is, bytes_eq-of}
 use Rattle.gix.proofs.Growth.{stores_more}
 use Rattle.gix.specs.TopLevel.{flat, IsTopLevelFile, file_leaf, file_entry}
@@ -53,14 +52,14 @@ Follow-insert a n leaf (e ∷ es) h f = go (name_cmp n e.0) (Follow-insert a n l
     go Greater ih = (f.0, f.1, ih)
 
 -- a file more at its place in the order
-pub insert_canonical : (n : List ℕ) (leaf : Leaf) (es : List (List ℕ × Leaf)) → IsName n → IsCanonical (flat es) → IsCanonical (flat (insert_entry name_cmp es n leaf))
-insert_canonical n leaf [] name ok = (name, tt, tt)
-insert_canonical n leaf (e ∷ es) name ok = go (name_cmp n e.0) refl (insert_canonical n leaf es name ok.2)
+pub insert_canonical : (n : List ℕ) (leaf : Leaf) (es : List (List ℕ × Leaf)) → IsName n → IsLeafMode leaf.mode.value → IsCanonical (flat es) → IsCanonical (flat (insert_entry name_cmp es n leaf))
+insert_canonical n leaf [] name mode ok = (name, tt, tt, mode)
+insert_canonical n leaf (e ∷ es) name mode ok = go (name_cmp n e.0) refl (insert_canonical n leaf es name mode ok.2)
   where
     go : (o : Ordering) → name_cmp n e.0 ≡ o → IsCanonical (flat (insert_entry name_cmp es n leaf)) → IsCanonical (flat (match_ordering o ((n, leaf) ∷ e ∷ es) ((e.0, leaf) ∷ es) (e ∷ insert_entry name_cmp es n leaf)))
-    go Less c ih = (name, (differ n e.0 c, c, Follow-chain n e.0 es c ok.1), ok)
-    go Equal c ih = ok
-    go Greater c ih = (ok.0, Follow-insert e.0 n leaf es (nat_list_cmp_total.antisymm e.0 n ∙ ap ordering_reverse c) ok.1, ih)
+    go Less c ih = (name, (differ n e.0 c, c, Follow-chain n e.0 es c ok.1), ok, mode)
+    go Equal c ih = (ok.0, ok.1, ok.2, mode)
+    go Greater c ih = (ok.0, Follow-insert e.0 n leaf es (nat_list_cmp_total.antisymm e.0 n ∙ ap ordering_reverse c) ok.1, ih, ok.3)
 
 -- ---- what stands at a path
 
@@ -125,9 +124,9 @@ insert_leaves n leaf es (c ∷ d ∷ p) = flat_deep (insert_entry name_cmp es n 
 put_same : (m k : PathMap) (p : Path) (leaf : Leaf) (q : Path) → m q ≡ k q → put m p leaf q ≡ put k p leaf q
 put_same m k p leaf q e = ap (λ r. cond (path_eq p q) (Some leaf) (cond (leads_to p q || leads_to q p) None r)) e
 
-pub put_stands : (n : List ℕ) (leaf : Leaf) (es : List (List ℕ × Leaf)) (m : PathMap) → IsName n → StandsFor (flat es) m → StandsFor (flat (insert_entry name_cmp es n leaf)) (put m (n ∷ []) leaf)
-put_stands n leaf es m name s = record {
-  canonical = insert_canonical n leaf es name s.canonical;
+pub put_stands : (n : List ℕ) (leaf : Leaf) (es : List (List ℕ × Leaf)) (m : PathMap) → IsName n → IsLeafMode leaf.mode.value → StandsFor (flat es) m → StandsFor (flat (insert_entry name_cmp es n leaf)) (put m (n ∷ []) leaf)
+put_stands n leaf es m name mode s = record {
+  canonical = insert_canonical n leaf es name mode s.canonical;
   leaves = λ p. insert_leaves n leaf es p ∙ put_same (leaf_at (flat es)) m (n ∷ []) leaf p (s.leaves p);
 }
 
@@ -144,12 +143,17 @@ blobs_of-push : (edits : List PathEdit) (edit : PathEdit) → blobs_of (edits ++
 blobs_of-push [] edit = append-nil (blobs_in edit)
 blobs_of-push (e ∷ edits) edit = ap (λ l. blobs_in e ++ l) (blobs_of-push edits edit) ∙ sym (append_assoc (blobs_in e) (blobs_of edits) (blobs_in edit))
 
+-- a file has a leaf's mode
+file_mode_fits : (executable : Bool) → IsLeafMode (file_mode executable)
+file_mode_fits true = inr (inl refl)
+file_mode_fits false = inl refl
+
 pub file_more : (hash : HashKind) (edits : List PathEdit) (path bytes : List ℕ) (executable : Bool) (es fs : List (List ℕ × Leaf)) → IsTopLevelFile (File path bytes executable)
     → fs ≡ insert_entry name_cmp es path (file_leaf hash bytes executable) → StandsFor (flat es) (edited hash no_paths edits) → StandsFor (flat fs) (edited hash no_paths (edits ++ File path bytes executable ∷ []))
 file_more hash edits path bytes executable es fs top put_is s =
     let m : PathMap = edited hash no_paths edits in
     let leaf : Leaf = file_leaf hash bytes executable in
-    let now : StandsFor (flat (insert_entry name_cmp es path leaf)) (put m (components path) leaf) = subst (λ c. StandsFor (flat (insert_entry name_cmp es path leaf)) (put m c leaf)) (sym top.1) (put_stands path leaf es m top.0 s) in
+    let now : StandsFor (flat (insert_entry name_cmp es path leaf)) (put m (components path) leaf) = subst (λ c. StandsFor (flat (insert_entry name_cmp es path leaf)) (put m c leaf)) (sym top.1) (put_stands path leaf es m top.0 (file_mode_fits executable) s) in
     subst (λ l. StandsFor (flat l) (edited hash no_paths (edits ++ File path bytes executable ∷ []))) (sym put_is)
     (subst (StandsFor (flat (insert_entry name_cmp es path leaf))) (sym (edited-push hash edits (File path bytes executable) no_paths)) now)
 
@@ -175,6 +179,17 @@ pub blobs_more : (edits : List PathEdit) (i : ℕ) (item : PathEdit) (path bytes
 blobs_more edits i item path bytes executable s t u lt there is before after =
     subst (λ l. Becomes (all_stored l s) u) (sym (ap blobs_of (take_edit edits i item (File path bytes executable) lt there is) ∙ blobs_of-push (take i edits) (File path bytes executable)))
     (stores_more (blobs_of (take i edits)) ((Blob, bytes) ∷ []) s t u before after)
+
+-- Files at names have a canonical directory.
+pub files_stand : (hash : HashKind) (edits : List PathEdit) (es : List (List ℕ × Leaf)) (m : PathMap) → AllByRecursion IsTopLevelFile edits → StandsFor (flat es) m → (directory : Directory) × StandsFor directory (edited hash m edits)
+files_stand hash [] es m all s = (flat es, s)
+files_stand hash (File path bytes executable ∷ edits) es m all s =
+    let leaf : Leaf = file_leaf hash bytes executable in
+    let now : StandsFor (flat (insert_entry name_cmp es path leaf)) (put m (components path) leaf) = subst (λ c. StandsFor (flat (insert_entry name_cmp es path leaf)) (put m c leaf)) (sym all.0.1) (put_stands path leaf es m all.0.0 (file_mode_fits executable) s) in
+    files_stand hash edits (insert_entry name_cmp es path leaf) (put m (components path) leaf) all.1 now
+files_stand hash (Link path bytes ∷ edits) es m all s = absurd all.0
+files_stand hash (Module path id ∷ edits) es m all s = absurd all.0
+files_stand hash (Remove path ∷ edits) es m all s = absurd all.0
 
 entries_of-flat : (hash : HashKind) (es : List (List ℕ × Leaf)) → entries_of hash (flat es) ≡ map file_entry es
 entries_of-flat hash [] = refl

@@ -1,6 +1,5 @@
 -- What was written on the way to a commit.
-use Rattle.std.proofs.Common.{◌≡◌, ◌∙◌, ◌≤◌, sym, ap, refl, subst, List, [], ◌∷◌, ◌++◌, ℕ, length, take, drop, arith, append_assoc, take-append-drop, Result, Ok, Err, IfOk, OnOk, OnErr}
-use Rattle.std.proofs.lemmas.List.{append-nil}
+use Rattle.std.proofs.Common.{◌≡◌, ◌∙◌, ◌≤◌, sym, ap, refl, subst, List, [], ◌∷◌, ◌++◌, ℕ, length, take, drop, append_assoc, take-append-drop, Result, Ok, Err, IfOk, OnOk, OnErr}
 use Rattle.gx_hash.specs.declared.kind.HashKind.{HashKind}
 use Rattle.gx_hash.specs.declared.oid.ObjectId.{ObjectId}
 use Rattle.gx_hash.specs.ObjectId.{object_id}
@@ -14,13 +13,13 @@ use Rattle.gx_store.specs.declared.error.StoreError.{StoreError}
 use Rattle.gx_edit.specs.declared.leaf.Leaf.{Leaf}
 use Rattle.gx_edit.specs.declared.path_edit.PathEdit.{PathEdit}
 use Rattle.gx_edit.specs.PathMap.{no_paths, edited, blobs_of, blobs_in}
-use Rattle.gx_edit.specs.CanonicalTree.{Directory, StandsFor, entries_of, root_of, tree_of, trees_below, trees_of}
+use Rattle.gx_edit.specs.CanonicalTree.{StandsFor, entries_of, tree_of, trees_below, trees_of}
 use Rattle.gix.specs.CommitRequest.{CommitRequest}
-use Rattle.gix.specs.CommitEdits.{Grows, GrowsBy, commit_id, commit_text, written_objects}
+use Rattle.gix.specs.CommitEdits.{commit_text}
 use Rattle.gix.specs.TopLevel.{flat}
-use Rattle.gix.specs.Writing.{WritesTree, BeginsTree, WritesCommit}
+use Rattle.gix.specs.Writing.{WritesTree, BeginsTree, WritesCommit, BeginsCommit}
 use Rattle.gx_edit.proofs.DirectoryLemmas.{one_directory}
-use Rattle.gix.proofs.Growth.{stores_more, becomes_then, all_stored-none}
+use Rattle.gix.proofs.Growth.{stores_more, becomes_then}
 
 blobs_of-append : (xs ys : List PathEdit) → blobs_of (xs ++ ys) ≡ blobs_of xs ++ blobs_of ys
 blobs_of-append [] ys = refl
@@ -38,15 +37,6 @@ tree_begun edits s t h = λ directory stands. record {
   split = ap (λ l. l ++ trees_of s.hash directory) (ap blobs_of (sym (take-append-drop h.0 edits)) ∙ blobs_of-append (take h.0 edits) (drop h.0 edits))
       ∙ append_assoc (blobs_of (take h.0 edits)) (blobs_of (drop h.0 edits)) (trees_of s.hash directory);
   becomes = h.2;
-}
-
--- all blobs are some first objects
-pub blobs_begun : (edits : List PathEdit) (s t u : StoreState) → Becomes (all_stored (blobs_of edits) s) t → Becomes t u → BeginsTree edits s u
-blobs_begun edits s t u b c = λ directory stands. record {
-  first = blobs_of edits;
-  rest = trees_of s.hash directory;
-  split = refl;
-  becomes = becomes_then (all_stored (blobs_of edits) s) t u b c;
 }
 
 hash_kept : (objects : List (Kind × List ℕ)) (s t : StoreState) → Becomes (all_stored objects s) t → t.hash ≡ s.hash
@@ -68,12 +58,8 @@ pub tree_ok : (result : Result ObjectId StoreError) (edits : List PathEdit) (s t
 tree_ok (Ok id) edits s t u es tree stands b is id_is c = tree_stored edits s t u es tree id stands b is id_is c
 tree_ok (Err e) edits s t u es tree stands b is id_is c = tt
 
-pub tree_err : (result : Result ObjectId StoreError) (edits : List PathEdit) (s t u : StoreState) → Becomes (all_stored (blobs_of edits) s) t → OnErr result (Becomes t u) → OnErr result (BeginsTree edits s u)
-tree_err (Ok id) edits s t u b c = tt
-tree_err (Err e) edits s t u b c = blobs_begun edits s t u b c
-
 -- some first objects of the tree are some first objects of the commit
-begun_by : (r : CommitRequest) (s t u : StoreState) → BeginsTree r.edits s t → Becomes t u → GrowsBy r s u
+begun_by : (r : CommitRequest) (s t u : StoreState) → BeginsTree r.edits s t → Becomes t u → BeginsCommit r s u
 begun_by r s t u begun b = λ directory stands.
     let g = begun directory stands in
     record {
@@ -83,11 +69,8 @@ begun_by r s t u begun b = λ directory stands.
       becomes = becomes_then (all_stored g.first s) t u g.becomes b;
     }
 
-pub grows_before : (r : CommitRequest) (s t : StoreState) → BeginsTree r.edits s t → GrowsBy r s t
-grows_before r s t begun = begun_by r s t t begun (record { same = refl; later = omega arith })
-
 -- the whole tree is some first objects of the commit
-pub grows_by_tree : (r : CommitRequest) (s t u : StoreState) (tree : ObjectId) → WritesTree r.edits s tree t → Becomes t u → GrowsBy r s u
+pub grows_by_tree : (r : CommitRequest) (s t u : StoreState) (tree : ObjectId) → WritesTree r.edits s tree t → Becomes t u → BeginsCommit r s u
 grows_by_tree r s t u tree w b = λ directory stands.
     let same : w.directory ≡ directory = one_directory w.directory directory w.stands.canonical stands.canonical (λ p. w.stands.leaves p ∙ sym (stands.leaves p)) in
     record {
@@ -115,6 +98,6 @@ pub commit_ok : (result : Result ObjectId StoreError) (r : CommitRequest) (s t u
 commit_ok (Ok id) r s t u tree bytes w is id_is b = commit_stored r s t u tree id bytes w is id_is b
 commit_ok (Err e) r s t u tree bytes w is id_is b = tt
 
-pub commit_err : (result : Result ObjectId StoreError) (r : CommitRequest) (s t u : StoreState) (tree : ObjectId) → WritesTree r.edits s tree t → OnErr result (Becomes t u) → OnErr result (GrowsBy r s u)
+pub commit_err : (result : Result ObjectId StoreError) (r : CommitRequest) (s t u : StoreState) (tree : ObjectId) → WritesTree r.edits s tree t → OnErr result (Becomes t u) → OnErr result (BeginsCommit r s u)
 commit_err (Ok id) r s t u tree w b = tt
 commit_err (Err e) r s t u tree w b = grows_by_tree r s t u tree w b

@@ -1,5 +1,5 @@
 -- What a commit of edits writes, and why it is refused.
-use Rattle.std.specs.Prelude.{◌≡◌, ◌⊎◌, ℕ, Bool, true, false, not, ◌&&◌, if◌then◌else◌, List, [], ◌∷◌, ◌++◌, codes, bytes_eq, Option, Some, None, IsTrue, IsSome, IfSome, Contains}
+use Rattle.std.specs.Prelude.{◌≡◌, ◌⊎◌, ℕ, Bool, true, false, not, ◌&&◌, if◌then◌else◌, List, [], ◌∷◌, ◌++◌, codes, bytes_eq, Option, Some, None, IsTrue, IsSome, IfSome}
 use Rattle.std.specs.List.{list_all}
 use Rattle.std.specs.FinMap.{get}
 use Rattle.gx_hash.specs.declared.kind.HashKind.{HashKind}
@@ -58,7 +58,7 @@ abbrev pub is_nil : {X : Type 0} → List X → Bool
 is_nil [] = true
 is_nil (x ∷ xs) = false
 
--- A request that is served yet names a branch, has no parents, puts files at plain top-level names, and has identities that can be written.
+-- A request that is served so far: its name is not `HEAD`, it has no parent, it puts files alone, each at one plain name or at a path with an empty name, and its identities can be written. (Ours; docs/SCRIPT.md.)
 abbrev pub is_served_request : CommitRequest → Bool
 is_served_request r = not (bytes_eq r.reference (codes "HEAD")) && is_nil r.parents && list_all is_served r.edits && is_writable_identity r.author && is_writable_identity r.committer
 
@@ -75,15 +75,15 @@ IsSymbolic (Some (target.Object id)) = ⊥
 IsSymbolic (Some (target.Symbolic name)) = Unit {0}
 
 -- the name is no symbolic reference, where the references are told
-abbrev pub IsDirect : CommitRequest → Option RefState → Type 0
-IsDirect r references = IfSome references (λ refs. IsSymbolic (get refs.targets r.reference) → ⊥)
+abbrev pub IsNotSymbolic : CommitRequest → Option RefState → Type 0
+IsNotSymbolic r references = IfSome references (λ refs. IsSymbolic (get refs.targets r.reference) → ⊥)
 
 -- a request that is not refused as unsupported
 pub record IsSupported (r : CommitRequest) (references : Option RefState) : Type 0 where
   pub served : is_served_request r ≡ true
-  pub direct : IsDirect r references
+  pub not_symbolic : IsNotSymbolic r references
 
--- The request may be made: it is supported, its paths have names, its reference is absent, and none stands in its way. (git-commit-tree(1), git-update-ref(1))
+-- The request may be made: it is supported, no name in its paths is empty, its reference is absent, and none stands in its way. (git-commit-tree(1), git-update-ref(1))
 pub record IsAdmitted (r : CommitRequest) (references : Option RefState) : Type 0 where
   pub supported : IsSupported r references
   pub paths : has_no_empty_name r ≡ true
@@ -110,18 +110,34 @@ pub record Grows (objects : List (Kind × List ℕ)) (old new : StoreState) : Ty
   pub split : objects ≡ first ++ rest
   pub becomes : Becomes (all_stored first old) new
 
--- some first objects of the request
-abbrev pub GrowsBy : CommitRequest → StoreState → StoreState → Type 0
-GrowsBy r old new = (directory : Directory) → StandsFor directory (edited old.hash no_paths r.edits) → Grows (written_objects old.hash r directory) old new
+-- Some first objects of the request were stored.
+pub record GrowsBy (r : CommitRequest) (old new : StoreState) : Type 0 where
+  pub directory : Directory
+  pub stands : StandsFor directory (edited old.hash no_paths r.edits)
+  pub grows : Grows (written_objects old.hash r directory) old new
 
 -- all objects of the request were stored, and a fault left its reference and log old or new
 pub record IsTornBy (r : CommitRequest) (old new : StoreState) : Type 0 where
   pub directory : Directory
   pub stands : StandsFor directory (edited old.hash no_paths r.edits)
   pub due : Bool
+  pub due_name : is_logged r.reference ≡ true → due ≡ true
+  pub due_log : IfSome old.references (λ refs. due ≡ is_due refs.logs r.reference)
   pub stored : StoreState
   pub becomes : Becomes (all_stored (written_objects old.hash r directory) old) stored
   pub torn : AfterFault (commit_change old.hash r (commit_id old.hash r directory) due ∷ []) stored new
+
+-- a request that may be made has some first objects stored
+abbrev pub HasBegun : CommitRequest → StoreState → StoreState → Type 0
+HasBegun r old new = IsAdmitted r old.references × GrowsBy r old new
+
+-- A fault of a read changes nothing; one of a write comes behind some first objects, or tears the reference.
+abbrev pub LeavesFault : CommitRequest → StoreState → StoreState → What → Type 0
+LeavesFault r old new what.Write = IsAdmitted r old.references × (GrowsBy r old new ⊎ IsTornBy r old new)
+LeavesFault r old new (what.Object id) = new ≡ old
+LeavesFault r old new (what.Name name) = new ≡ old
+LeavesFault r old new what.Index = new ≡ old
+LeavesFault r old new what.Listing = new ≡ old
 
 -- What each refusal leaves. One that names a fault in the request leaves all as it was.
 abbrev pub Leaves : CommitRequest → StoreState → StoreState → CommitEditsError → Type 0
@@ -129,8 +145,8 @@ Leaves r old new Unsupported = new ≡ old
 Leaves r old new (EmptyPathComponent path) = new ≡ old
 Leaves r old new (MustNotExist name actual) = new ≡ old
 Leaves r old new (NameConflict name other) = new ≡ old
-Leaves r old new (Store fault) = GrowsBy r old new ⊎ IsTornBy r old new
-Leaves r old new NoMemory = GrowsBy r old new
+Leaves r old new (Store fault) = LeavesFault r old new fault
+Leaves r old new NoMemory = (new ≡ old) ⊎ HasBegun r old new
 
 -- ---- causes
 
@@ -147,12 +163,31 @@ abbrev pub handed_on : StoreError → CommitEditsError
 handed_on store_error.NoMemory = NoMemory
 handed_on (store_error.Fault fault) = Store fault
 
+-- The path is that of the first edit whose path has an empty name.
+pub record IsFirstEmpty (edits : List PathEdit) (path : List ℕ) : Type 0 where
+  pub before : List PathEdit
+  pub edit : PathEdit
+  pub after : List PathEdit
+  pub split : edits ≡ before ++ edit ∷ after
+  pub named : list_all (λ e. not (has_empty_name e)) before ≡ true
+  pub empty : has_empty_name edit ≡ true
+  pub is : path ≡ path_of edit
+
+-- Why the machine refuses a commit: what the request holds, and what stands in the references, where they are told. A fault of the store and want of memory are none of its refusals.
+abbrev pub Cause : CommitRequest → Option RefState → CommitEditsError → Type 0
+Cause r references Unsupported = (is_served_request r ≡ false) ⊎ IfSome references (λ refs. IsSymbolic (get refs.targets r.reference))
+Cause r references (EmptyPathComponent path) = IsSupported r references × IsFirstEmpty r.edits path
+Cause r references (MustNotExist name actual) = IsSupported r references × (has_no_empty_name r ≡ true) × (name ≡ r.reference) × IfSome references (λ refs. get refs.targets name ≡ Some actual)
+Cause r references (NameConflict name other) = IsSupported r references × (has_no_empty_name r ≡ true) × (name ≡ r.reference) × Conflict name other × IfSome references (λ refs. (get refs.targets name ≡ None) × IsSome (get refs.targets other))
+Cause r references (Store fault) = ⊥
+Cause r references NoMemory = ⊥
+
 -- Why a commit of edits is refused. Want of memory needs no cause.
 abbrev pub CommitEditsCauses : CommitRequest → StoreState → StoreState → CommitEditsError → Type 0
-CommitEditsCauses r old new Unsupported = (is_served_request r ≡ false) ⊎ IfSome old.references (λ refs. IsSymbolic (get refs.targets r.reference))
-CommitEditsCauses r old new (EmptyPathComponent path) = IsSupported r old.references × ((edit : PathEdit) × Contains r.edits edit × (path ≡ path_of edit) × (has_empty_name edit ≡ true))
-CommitEditsCauses r old new (MustNotExist name actual) = IsSupported r old.references × (has_no_empty_name r ≡ true) × (name ≡ r.reference) × IfSome old.references (λ refs. get refs.targets name ≡ Some actual)
-CommitEditsCauses r old new (NameConflict name other) = IsSupported r old.references × (has_no_empty_name r ≡ true) × (name ≡ r.reference) × Conflict name other × IfSome old.references (λ refs. (get refs.targets name ≡ None) × IsSome (get refs.targets other))
+CommitEditsCauses r old new Unsupported = Cause r old.references Unsupported
+CommitEditsCauses r old new (EmptyPathComponent path) = Cause r old.references (EmptyPathComponent path)
+CommitEditsCauses r old new (MustNotExist name actual) = Cause r old.references (MustNotExist name actual)
+CommitEditsCauses r old new (NameConflict name other) = Cause r old.references (NameConflict name other)
 CommitEditsCauses r old new (Store fault) = HasFault r old new fault
 CommitEditsCauses r old new NoMemory = Unit {0}
 

@@ -46,11 +46,13 @@ pub enum CommitEditsError {
 impl<S: Store> Repository<S> {
     ghost use Rattle.std.specs.Prelude.{◌≡◌, IfOk, IfErr};
     ghost use Rattle.gix.specs.CommitEdits.{Commits, Leaves, CommitEditsCauses};
+    ghost use Rattle.gix.specs.Machine.{WhereTold, Accepts, Refuses, IsRefusal};
     ghost use Rattle.gix.specs.Repository.{store_of, settings_of};
 
     /// Makes a commit of the empty tree after the edits, in their order, and lets a new reference name it.
     ///
-    /// Objects are stored before the reference is made, each behind all that it names.
+    /// Objects are stored before the reference is made, each behind all that it names. Where the store tells what it
+    /// holds, an answer that is no fault and no want of memory is one that the repository machine may give.
     pub fn commit_edits(
         &mut self,
         alloc: Global,
@@ -66,6 +68,10 @@ impl<S: Store> Repository<S> {
         ensures leaves { IfErr result (Leaves record { committer = committer.now; author = author.now; reference = reference.now; message = message.now; parents = parents.now; edits = edits.now }
             (S.state (store_of self.old)) (S.state (store_of self.new))) }
         ensures causes { IfErr result (CommitEditsCauses record { committer = committer.now; author = author.now; reference = reference.now; message = message.now; parents = parents.now; edits = edits.now }
+            (S.state (store_of self.old)) (S.state (store_of self.new))) }
+        ensures accepts { IfOk result (λ id. WhereTold (λ old new. Accepts record { committer = committer.now; author = author.now; reference = reference.now; message = message.now; parents = parents.now; edits = edits.now } old id new)
+            (S.state (store_of self.old)) (S.state (store_of self.new))) }
+        ensures refuses { IfErr result (λ e. IsRefusal e → WhereTold (λ old new. Refuses record { committer = committer.now; author = author.now; reference = reference.now; message = message.now; parents = parents.now; edits = edits.now } old e new)
             (S.state (store_of self.old)) (S.state (store_of self.new))) }
         ensures settings { settings_of self.new ≡ settings_of self.old }
     {

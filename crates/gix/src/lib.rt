@@ -6,6 +6,7 @@
 #![tactic(auto)]
 
 mod commit_edits;
+pub mod laws;
 mod log;
 mod repository;
 mod settings;

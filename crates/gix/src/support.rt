@@ -1,11 +1,9 @@
 //! Which requests for a commit are served yet: files at plain top-level names, on a branch, without a parent.
 
-ghost use Rattle.std.specs.Prelude.{◌≡◌, ◌==◌, ◌||◌, ◌&&◌, not, ℕ, List, true, MatchOption, Contains};
+ghost use Rattle.std.specs.Prelude.{◌≡◌, ◌==◌, ◌||◌, ◌&&◌, not, ℕ, List, true, MatchOption};
 ghost use Rattle.std.specs.List.{list_all, list_any};
 ghost use Rattle.gx_edit.specs.Path.{components};
-ghost use Rattle.gx_edit.specs.PathMap.{path_of};
-ghost use Rattle.gx_edit.specs.declared.path_edit.PathEdit.{PathEdit};
-ghost use Rattle.gix.specs.CommitEdits.{is_served_request, has_empty_name};
+ghost use Rattle.gix.specs.CommitEdits.{is_served_request, has_empty_name, IsFirstEmpty};
 ghost use Rattle.gix.specs.Support.{is_plain_byte, is_plain, is_empty, has_empty, is_single, is_served_path, is_served};
 
 use gx_edit::{PathEdit, split_first_name};
@@ -111,8 +109,7 @@ pub(crate) fn is_served_request(
 
 /// The first path of the edits that has an empty name.
 pub(crate) fn find_empty_name(edits: &[PathEdit]) -> Option<&Bytes>
-    ensures { MatchOption result (list_all (λ edit. not (has_empty_name edit)) edits.now ≡ true)
-        (λ path. (edit : PathEdit) × Contains edits.now edit × (path.now ≡ path_of edit) × (has_empty_name edit ≡ true)) }
+    ensures { MatchOption result (list_all (λ edit. not (has_empty_name edit)) edits.now ≡ true) (λ path. IsFirstEmpty edits.now path.now) }
 {
     for edit in edits {
         if has_empty_name(edit.path().as_slice()) {

@@ -4,9 +4,8 @@ ghost use Rattle.std.specs.Prelude.{◌≡◌, ℕ, List, IfOk, OnErr};
 ghost use Rattle.std.specs.List.{AllByRecursion};
 ghost use Rattle.gx_object.specs.Commit.{plain_commit_bytes};
 ghost use Rattle.gx_store.specs.State.{HasCause, IfFault};
-ghost use Rattle.gix.specs.CommitEdits.{GrowsBy};
 ghost use Rattle.gix.specs.TopLevel.{IsTopLevelFile};
-ghost use Rattle.gix.specs.Writing.{WritesTree, BeginsTree, WritesCommit};
+ghost use Rattle.gix.specs.Writing.{WritesTree, BeginsTree, WritesCommit, BeginsCommit};
 
 use crate::top_level::{put_files, tree_of};
 use gx_edit::PathEdit;
@@ -59,7 +58,7 @@ pub(crate) fn write_commit<S: Objects>(
     requires { AllByRecursion IsTopLevelFile edits.now }
     ensures ok { (reference : List ℕ) → IfOk result (λ id. WritesCommit record { committer = committer.now; author = author.now; reference = reference; message = message.now; parents = parents.now; edits = edits.now }
         (S.state store.old) id (S.state store.new)) }
-    ensures err { (reference : List ℕ) → OnErr result (GrowsBy record { committer = committer.now; author = author.now; reference = reference; message = message.now; parents = parents.now; edits = edits.now }
+    ensures err { (reference : List ℕ) → OnErr result (BeginsCommit record { committer = committer.now; author = author.now; reference = reference; message = message.now; parents = parents.now; edits = edits.now }
         (S.state store.old) (S.state store.new)) }
     ensures fault { IfFault result (HasCause (S.state store.old) (S.state store.new)) }
 {

@@ -1,12 +1,11 @@
 -- A path map has at most one canonical directory.
-use Rattle.std.proofs.Common.{◌≡◌, ℕ, Bool, true, false, ◌||◌, ◌&&◌, ◌≢◌, ◌++◌, ◌⊎◌, inl, inr, cond, List, [], ◌∷◌, Option, Some, None, refl, sym, ap, ap₂, ◌∙◌, subst, true≢false, arith, Less, Equal}
+use Rattle.std.proofs.Common.{◌≡◌, ℕ, Bool, true, false, ◌≢◌, ◌++◌, ◌⊎◌, inl, inr, cond, List, [], ◌∷◌, Some, None, refl, sym, ◌∙◌, subst, Equal}
 use Rattle.std.specs.Str.{bytes_eq}
 use Rattle.std.specs.Cmp.{tied_itself}
 use Rattle.std.specs.Cmp.Lexicographic.{slice_cmp, nat_list_cmp_total}
 use Rattle.std.specs.Ordering.{nat_cmp}
-use Rattle.gx_edit.specs.Path.{Path, IsName}
+use Rattle.gx_edit.specs.Path.{Path}
 use Rattle.gx_edit.specs.declared.leaf.Leaf.{Leaf}
-use Rattle.gx_edit.specs.PathMap.{PathMap}
 use Rattle.gx_edit.specs.CanonicalTree.{Directory, leaf_at, Follow, IsCanonical, IsBelow}
 use Rattle.gx_edit.specs.CanonicalTree.Directory.{End, File, Sub}
 use Rattle.gx_edit.proofs.PathLemmas.{bytes_eq-is, bytes_eq-of}

@@ -1,3 +1,4 @@
 pub mod ComponentLemmas
 pub mod PathLemmas
 pub mod DirectoryLemmas
+pub mod PlainLemmas

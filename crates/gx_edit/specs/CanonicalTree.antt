@@ -1,5 +1,5 @@
 -- Canonical trees: the one way in which a path map is written as tree objects.
-use Rattle.std.specs.Prelude.{◌≡◌, ◌≢◌, ℕ, if◌then◌else◌, List, [], ◌∷◌, ◌++◌, Option, Some, None, bytes_eq, Contains}
+use Rattle.std.specs.Prelude.{◌≡◌, ◌≢◌, ◌⊎◌, ℕ, if◌then◌else◌, List, [], ◌∷◌, ◌++◌, Some, None, bytes_eq}
 use Rattle.std.specs.declared.cmp.Ordering.TheVariants.{Less}
 use Rattle.gx_hash.specs.declared.kind.HashKind.{HashKind}
 use Rattle.gx_hash.specs.declared.oid.ObjectId.{ObjectId}
@@ -12,6 +12,7 @@ use Rattle.gx_object.specs.declared.tree.EntryKind.TheVariants as entry_kind
 use Rattle.gx_object.specs.Kind.{kind_name}
 use Rattle.gx_object.specs.Mode.{mode_of}
 use Rattle.gx_object.specs.Tree.{tree_bytes}
+use Rattle.gx_store.specs.Content.{Content, HoldsAll}
 use Rattle.gx_edit.specs.Path.{Path, IsName}
 use Rattle.gx_edit.specs.PathMap.{PathMap}
 use Rattle.gx_edit.specs.declared.leaf.Leaf.{Leaf}
@@ -40,10 +41,14 @@ Follow n key End = Unit {0}
 Follow n key (File m leaf rest) = (n ≢ m) × IsBelow key m × Follow n key rest
 Follow n key (Sub m inner rest) = (n ≢ m) × IsBelow key (m ++ 47 ∷ []) × Follow n key rest
 
--- A directory is canonical where its names are names, each stands once, entries rise by their sort keys (a directory's name counts as if a slash followed it), and no directory below it is empty. (git-mktree(1); git-fsck(1), "treeNotSorted", "duplicateEntries")
+-- A leaf is a file, a link or a submodule, and so its mode is one of theirs. (git-fast-import(1), "filemodify")
+abbrev pub IsLeafMode : ℕ → Type 0
+IsLeafMode mode = (mode ≡ mode_of entry_kind.Blob) ⊎ (mode ≡ mode_of entry_kind.BlobExecutable) ⊎ (mode ≡ mode_of entry_kind.Link) ⊎ (mode ≡ mode_of entry_kind.Commit)
+
+-- A directory is canonical where its names are names, each stands once, entries rise by their sort keys (a directory's name counts as if a slash followed it), leaves have the modes of leaves, and no directory below it is empty. (git-mktree(1); git-fsck(1), "treeNotSorted", "duplicateEntries", "badFilemode")
 abbrev pub IsCanonical : Directory → Type 0
 IsCanonical End = Unit {0}
-IsCanonical (File n leaf rest) = IsName n × Follow n n rest × IsCanonical rest
+IsCanonical (File n leaf rest) = IsName n × Follow n n rest × IsCanonical rest × IsLeafMode leaf.mode.value
 IsCanonical (Sub n inner rest) = IsName n × (inner ≢ End) × IsCanonical inner × Follow n (n ++ 47 ∷ []) rest × IsCanonical rest
 
 -- a canonical directory with just the leaves of the map
@@ -74,3 +79,10 @@ trees_below hash (Sub n inner rest) = (trees_below hash inner ++ tree_of hash in
 -- all tree objects of a directory, its own last
 abbrev pub trees_of : HashKind → Directory → List (Kind × List ℕ)
 trees_of hash directory = trees_below hash directory ++ tree_of hash directory ∷ []
+
+-- A tree represents a path map in a content where it is the root of the map's canonical directory, and all trees of that directory are stored. (Git, "Git Internals - Git Objects", "Tree Objects")
+pub record Represents (hash : HashKind) (content : Content) (tree : ObjectId) (m : PathMap) : Type 0 where
+  pub directory : Directory
+  pub stands : StandsFor directory m
+  pub is_root : tree ≡ root_of hash directory
+  pub stored : HoldsAll hash (trees_of hash directory) content

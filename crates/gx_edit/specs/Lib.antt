@@ -1,3 +1,4 @@
 pub mod Path
 pub mod PathMap
 pub mod CanonicalTree
+pub mod Plain

@@ -11,12 +11,12 @@ abbrev pub at_front : ℕ → Path → Path
 at_front b [] = (b ∷ []) ∷ []
 at_front b (name ∷ path) = (b ∷ name) ∷ path
 
--- A path is written with a slash between its names; so a text is parted at each slash. (git-ls-files(1), "Output")
+-- A path is written with a slash between its names; so a text is parted at each slash. (git-fast-import(1), "filemodify")
 abbrev pub components : List ℕ → Path
 components [] = [] ∷ []
 components (b ∷ bytes) = if b == 47 then [] ∷ components bytes else at_front b (components bytes)
 
--- A name in a tree is not empty and holds neither a slash nor a zero byte. (git-fsck(1), "emptyName", "fullPathname")
+-- A name in a tree is not empty and holds neither a slash nor a zero byte, which ends a name there. (git-fsck(1), "emptyName", "fullPathname"; Git, "Git Internals - Git Objects", "Tree Objects")
 pub record IsName (name : List ℕ) : Type 0 where
   pub not_empty : name ≢ []
   pub no_slash : Contains name 47 → ⊥

@@ -1,5 +1,5 @@
 -- Path maps: which leaf stands at each path, and what edits make of that.
-use Rattle.std.specs.Prelude.{ℕ, Bool, true, false, ◌||◌, if◌then◌else◌, List, [], ◌∷◌, ◌++◌, Option, Some, None, codes}
+use Rattle.std.specs.Prelude.{ℕ, Bool, true, false, ◌||◌, if◌then◌else◌, List, [], ◌∷◌, ◌++◌, Option, Some, None}
 use Rattle.gx_hash.specs.declared.kind.HashKind.{HashKind}
 use Rattle.gx_hash.specs.declared.oid.ObjectId.{ObjectId}
 use Rattle.gx_hash.specs.ObjectId.{object_id}

@@ -1,14 +1,16 @@
 //! Edits of trees by path.
 //!
 //! A tree is seen as a map from paths to leaves: files, links and submodules. Edits change that map one after
-//! another, and a map has one canonical tree, whatever the order in which its paths were put. That tree is what
-//! a commit of the edits names.
+//! another, and a map has at most one canonical tree, whatever the order in which its paths were put. That tree is
+//! what a commit of the edits names.
 #![tactic(auto)]
 
 pub mod laws;
 mod leaf;
 mod path;
 mod path_edit;
+#[cfg(test)]
+mod plain;
 
 pub use leaf::Leaf;
 pub use path::split_first_name;

@@ -21,7 +21,7 @@ use Rattle.gx_hash.specs.declared.oid.HexError.TheVariants.{BadLength, BadDigit}
 abbrev pub hashed_bytes : List ℕ → List ℕ → List ℕ
 hashed_bytes kind_name bytes = kind_name ++ 32 ∷ decimal (length bytes) ++ 0 ∷ bytes
 
--- An object's id is the digest of those bytes. (FIPS 180-4; gitformat-hash-function-transition)
+-- An object's id is the digest of those bytes. (FIPS 180-4; hash-function-transition)
 unfoldable pub object_id : HashKind → List ℕ → List ℕ → ObjectId
 object_id hash_kind.Sha1 kind_name bytes = Sha1 (sha1 (hashed_bytes kind_name bytes))
 object_id hash_kind.Sha256 kind_name bytes = Sha256 (sha256 (hashed_bytes kind_name bytes))

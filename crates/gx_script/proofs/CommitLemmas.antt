@@ -9,6 +9,7 @@ use Rattle.std.proofs.lemmas.List.Sums.{sum_by-append}
 use Rattle.std.proofs.lemmas.Grind.{flat_map-append}
 use Rattle.gx_edit.specs.declared.path_edit.PathEdit.{PathEdit}
 use Rattle.gx_edit.specs.declared.path_edit.PathEdit.TheVariants.{File}
+use Rattle.gx_hash.specs.declared.kind.HashKind.{HashKind}
 use Rattle.gx_object.specs.declared.signature.Signature.{Signature}
 use Rattle.gx_store.specs.Outside.{IsEnd}
 use Rattle.gx_script.specs.declared.commit.Head.{Head}
@@ -18,7 +19,7 @@ use Rattle.gx_script.specs.declared.request.Request.TheVariants.{Commit}
 use Rattle.gx_script.specs.CommitSteps.{SaysCommit, SaysWho, SaysMessage, SaysChange, IsNoChange, head_items, IsHead}
 use Rattle.gx_script.specs.Lines.{IsNoCommitLine, IsNoWho, IsNoMessageLine, IsRoom}
 use Rattle.gx_script.specs.Reading.{Reading, Moves, Stays, Fails, BadAt, Anything}
-use Rattle.gx_script.specs.Script.{NoNewline, IsBranch, IsIdentity, IsEdit, IsShort, IsRequest, Begins, block_size, line_limit, block_limit, blocks_limit, edit_limit}
+use Rattle.gx_script.specs.Script.{NoNewline, IsScriptName, IsIdentity, IsEdit, IsShort, IsRequest, Begins, block_size, line_limit, block_limit, blocks_limit, edit_limit}
 use Rattle.gx_script.specs.Spelling.{Item, Line, Block, items_text, commit_items, edit_items, spelling, ended, who_text, commit_line, author_word, committer_word, message_line, put_line, end_line}
 use Rattle.gx_script.specs.Steps.{GivesLine, LineFails, BlockFails}
 use Rattle.gx_script.proofs.EditLemmas.{commit_open, author_open, committer_open, message_open, same_message, edits_alike, edits_items, tail_items, next_line}
@@ -32,7 +33,7 @@ all_append P [] ys p q = q
 all_append P (x ∷ xs) ys p q = (p.0, all_append P xs ys p.1 q)
 
 pub alike : AllAlike
-alike (Commit r) (Commit s) p q = (
+alike hash (Commit r) (Commit s) p q = (
   (commit_open r.name p.form.name, commit_open s.name q.form.name),
   λ _. (
     (author_open r.author p.form.author, author_open s.author q.form.author),
@@ -73,9 +74,9 @@ sum_commit q =
     let end : sum_by block_size (Line end_line ∷ []) ≡ 0 = refl in
     omega (arith, whole, five, tail, end)
 
-pub is_request : (head : Head) (es : List PathEdit) (room : ℕ) → HasEdits head es room → IsRequest (Commit (commit_of head es))
-is_request head es room h = record {
-  form = record { name = h.head_fits.name; author = h.head_fits.author; committer = h.head_fits.committer; parents = refl; edits = h.each; count = h.count };
+pub is_request : (hash : HashKind) (head : Head) (es : List PathEdit) (room : ℕ) → HasEdits head es room → IsRequest hash (Commit (commit_of head es))
+is_request hash head es room h = record {
+  form = record { name = h.head_fits.name; author = h.head_fits.author; committer = h.head_fits.committer; ids = tt; parents = refl; edits = h.each; count = h.count };
   short = (h.head_fits.short.0, (h.head_fits.short.1.0, (h.head_fits.short.1.1.0, (h.head_fits.short.1.1.1.0, (h.head_fits.short.1.1.1.1.0, all_append IsShort (edits_items es) (Line end_line ∷ []) h.short end_short)))));
   blocks = subst (λ (n : ℕ). n ≤ blocks_limit) (sym (sum_commit (commit_of head es))) (omega (arith, h.room_is));
 }
@@ -105,29 +106,29 @@ abbrev head_of : List ℕ → Signature → Signature → List ℕ → Head
 head_of name author committer message = record { name = name; author = author; committer = committer; message = message }
 
 -- A commit without edits.
-bare : (head : Head) → IsHead head → IsRequest (Commit (commit_of head []))
-bare head h = is_request head [] (blocks_limit - length head.message) (record { head_fits = h; each = tt; short = tt; count = omega arith; room_is = omega (arith, h.short.1.1.1.1.0) })
+bare : (hash : HashKind) (head : Head) → IsHead head → IsRequest hash (Commit (commit_of head []))
+bare hash head h = is_request hash head [] (blocks_limit - length head.message) (record { head_fits = h; each = tt; short = tt; count = omega arith; room_is = omega (arith, h.short.1.1.1.1.0) })
 
-head_fits : (name : List ℕ) (author committer : Signature) (message : List ℕ) → IsBranch name → IsIdentity author → IsIdentity committer
+head_fits : (name : List ℕ) (author committer : Signature) (message : List ℕ) → IsScriptName name → IsIdentity author → IsIdentity committer
     → length (commit_line name) ≤ line_limit → length (author_word ++ who_text author) ≤ line_limit → length (committer_word ++ who_text committer) ≤ line_limit → length message ≤ block_limit
     → IsHead (head_of name author committer message)
 head_fits name author committer message p q r a b c d = record { name = p; author = q; committer = r; short = (a, (b, (c, (message_short (length message) d, (d, tt))))) }
 
 -- What was read of a head.
 pub record HasName (a b : Reading) (l m : Option (List ℕ)) (name : List ℕ) : Type 0 where
-  pub fits : IsBranch name
+  pub fits : IsScriptName name
   pub short : length (commit_line name) ≤ line_limit
   pub moved : Moves a b l m (items_text (Line (commit_line name) ∷ []))
 
 pub record HasAuthor (a b : Reading) (l m : Option (List ℕ)) (name : List ℕ) (author : Signature) : Type 0 where
-  pub name_fits : IsBranch name
+  pub name_fits : IsScriptName name
   pub name_short : length (commit_line name) ≤ line_limit
   pub fits : IsIdentity author
   pub short : length (author_word ++ who_text author) ≤ line_limit
   pub moved : Moves a b l m (items_text (Line (commit_line name) ∷ Line (author_word ++ who_text author) ∷ []))
 
 pub record HasCommitter (a b : Reading) (l m : Option (List ℕ)) (name : List ℕ) (author committer : Signature) : Type 0 where
-  pub name_fits : IsBranch name
+  pub name_fits : IsScriptName name
   pub name_short : length (commit_line name) ≤ line_limit
   pub author_fits : IsIdentity author
   pub author_small : length (author_word ++ who_text author) ≤ line_limit
@@ -136,7 +137,7 @@ pub record HasCommitter (a b : Reading) (l m : Option (List ℕ)) (name : List �
   pub moved : Moves a b l m (items_text (Line (commit_line name) ∷ Line (author_word ++ who_text author) ∷ Line (committer_word ++ who_text committer) ∷ []))
 
 pub record HasSize (a b : Reading) (l m : Option (List ℕ)) (name : List ℕ) (author committer : Signature) (size : ℕ) : Type 0 where
-  pub name_fits : IsBranch name
+  pub name_fits : IsScriptName name
   pub name_short : length (commit_line name) ≤ line_limit
   pub author_fits : IsIdentity author
   pub author_small : length (author_word ++ who_text author) ≤ line_limit
@@ -196,55 +197,55 @@ message_given a b c l m n name author committer size message h e p = (
 head_name : List ℕ
 head_name = codes "HEAD"
 
-no_first : NeverGoesOn [] IsNoCommitLine
-no_first line wrong (Commit q) after fits is = let h : line ≡ commit_line q.name = cc in wrong q.name fits.form.name h
+no_first : (hash : HashKind) → NeverGoesOn hash [] IsNoCommitLine
+no_first hash line wrong (Commit q) after fits is = let h : line ≡ commit_line q.name = cc in wrong q.name fits.form.name h
 
-no_author : (name : List ℕ) → NeverGoesOn (Line (commit_line name) ∷ []) (IsNoWho author_word)
-no_author name line wrong (Commit q) after fits is = let h : line ≡ author_word ++ who_text q.author = cc in wrong q.author fits.form.author h
+no_author : (hash : HashKind) (name : List ℕ) → NeverGoesOn hash (Line (commit_line name) ∷ []) (IsNoWho author_word)
+no_author hash name line wrong (Commit q) after fits is = let h : line ≡ author_word ++ who_text q.author = cc in wrong q.author fits.form.author h
 
-no_committer : (name : List ℕ) (author : Signature) → NeverGoesOn (Line (commit_line name) ∷ Line (author_word ++ who_text author) ∷ []) (IsNoWho committer_word)
-no_committer name author line wrong (Commit q) after fits is = let h : line ≡ committer_word ++ who_text q.committer = cc in wrong q.committer fits.form.committer h
+no_committer : (hash : HashKind) (name : List ℕ) (author : Signature) → NeverGoesOn hash (Line (commit_line name) ∷ Line (author_word ++ who_text author) ∷ []) (IsNoWho committer_word)
+no_committer hash name author line wrong (Commit q) after fits is = let h : line ≡ committer_word ++ who_text q.committer = cc in wrong q.committer fits.form.committer h
 
-no_message : (name : List ℕ) (author committer : Signature) → NeverGoesOn (Line (commit_line name) ∷ Line (author_word ++ who_text author) ∷ Line (committer_word ++ who_text committer) ∷ []) IsNoMessageLine
-no_message name author committer line wrong (Commit q) after fits is = let h : line ≡ message_line (length q.message) = cc in wrong (length q.message) fits.short.1.1.1.1.0 h
+no_message : (hash : HashKind) (name : List ℕ) (author committer : Signature) → NeverGoesOn hash (Line (commit_line name) ∷ Line (author_word ++ who_text author) ∷ Line (committer_word ++ who_text committer) ∷ []) IsNoMessageLine
+no_message hash name author committer line wrong (Commit q) after fits is = let h : line ≡ message_line (length q.message) = cc in wrong (length q.message) fits.short.1.1.1.1.0 h
 
 some_text : (name : List ℕ) (items : List Item) (front : List ℕ) → items_text (Line (commit_line name) ∷ items) ++ front ≡ [] → ⊥
 some_text name items front e = cc
 
-pub first_fails : (a : Reading) (l m : Option (List ℕ)) (f g : ℕ) (e : ScriptError) → f ≤ g → LineFails (λ front. IsEnd m × (front ≢ [])) IsNoCommitLine a l m f g e → Fails Begins (BadAt a m) a l m f g e
+pub first_fails : (a : Reading) (l m : Option (List ℕ)) (f g : ℕ) (e : ScriptError) → f ≤ g → LineFails (λ front. IsEnd m × (front ≢ [])) IsNoCommitLine a l m f g e → Fails (Begins a.hash) (BadAt a m) a l m f g e
 first_fails a l m f g e le fails =
     let h : Head = head_of (codes "HEAD") nobody nobody [] in
-    let wants : WantsLine [] = record { request = Commit (commit_of h []); fits = bare h (head_fits (codes "HEAD") nobody nobody [] (inl refl) nobody_fits nobody_fits (omega arith) author_short committer_short (omega arith)); line = commit_line (codes "HEAD"); after = _; is = refl } in
-    line_lifts alike [] (λ front. IsEnd m × (front ≢ [])) IsNoCommitLine a a l l m f f g e wants no_first (λ front ends. ends) (moves_none a l) (omega arith) fails
+    let wants : WantsLine a.hash [] = record { request = Commit (commit_of h []); fits = bare a.hash h (head_fits (codes "HEAD") nobody nobody [] (inl refl) nobody_fits nobody_fits (omega arith) author_short committer_short (omega arith)); line = commit_line (codes "HEAD"); after = _; is = refl } in
+    line_lifts alike [] (λ front. IsEnd m × (front ≢ [])) IsNoCommitLine a a l l m f f g e wants (no_first a.hash) (λ front ends. ends) (moves_none a l) (omega arith) fails
 
-pub author_fails : (a b : Reading) (l m k : Option (List ℕ)) (f g h : ℕ) (name : List ℕ) (e : ScriptError) → HasName a b l m name → f ≤ g → LineFails (λ front. IsEnd k) (IsNoWho author_word) b m k g h e → Fails Begins (BadAt a k) a l k f h e
+pub author_fails : (a b : Reading) (l m k : Option (List ℕ)) (f g h : ℕ) (name : List ℕ) (e : ScriptError) → HasName a b l m name → f ≤ g → LineFails (λ front. IsEnd k) (IsNoWho author_word) b m k g h e → Fails (Begins a.hash) (BadAt a k) a l k f h e
 author_fails a b l m k f g h name e s le fails =
     let t : Head = head_of name nobody nobody [] in
-    let wants : WantsLine (Line (commit_line name) ∷ []) = record { request = Commit (commit_of t []); fits = bare t (head_fits name nobody nobody [] s.fits nobody_fits nobody_fits s.short author_short committer_short (omega arith)); line = author_word ++ who_text nobody; after = _; is = refl } in
-    line_lifts alike (Line (commit_line name) ∷ []) (λ front. IsEnd k) (IsNoWho author_word) a b l m k f g h e wants (no_author name) (λ front end. (end, some_text name [] front)) s.moved le fails
+    let wants : WantsLine a.hash (Line (commit_line name) ∷ []) = record { request = Commit (commit_of t []); fits = bare a.hash t (head_fits name nobody nobody [] s.fits nobody_fits nobody_fits s.short author_short committer_short (omega arith)); line = author_word ++ who_text nobody; after = _; is = refl } in
+    line_lifts alike (Line (commit_line name) ∷ []) (λ front. IsEnd k) (IsNoWho author_word) a b l m k f g h e wants (no_author a.hash name) (λ front end. (end, some_text name [] front)) s.moved le fails
 
-pub committer_fails : (a b : Reading) (l m k : Option (List ℕ)) (f g h : ℕ) (name : List ℕ) (author : Signature) (e : ScriptError) → HasAuthor a b l m name author → f ≤ g → LineFails (λ front. IsEnd k) (IsNoWho committer_word) b m k g h e → Fails Begins (BadAt a k) a l k f h e
+pub committer_fails : (a b : Reading) (l m k : Option (List ℕ)) (f g h : ℕ) (name : List ℕ) (author : Signature) (e : ScriptError) → HasAuthor a b l m name author → f ≤ g → LineFails (λ front. IsEnd k) (IsNoWho committer_word) b m k g h e → Fails (Begins a.hash) (BadAt a k) a l k f h e
 committer_fails a b l m k f g h name author e s le fails =
     let t : Head = head_of name author nobody [] in
     let before : List Item = Line (commit_line name) ∷ Line (author_word ++ who_text author) ∷ [] in
-    let wants : WantsLine before = record { request = Commit (commit_of t []); fits = bare t (head_fits name author nobody [] s.name_fits s.fits nobody_fits s.name_short s.short committer_short (omega arith)); line = committer_word ++ who_text nobody; after = _; is = refl } in
-    line_lifts alike before (λ front. IsEnd k) (IsNoWho committer_word) a b l m k f g h e wants (no_committer name author) (λ front end. (end, some_text name (Line (author_word ++ who_text author) ∷ []) front)) s.moved le fails
+    let wants : WantsLine a.hash before = record { request = Commit (commit_of t []); fits = bare a.hash t (head_fits name author nobody [] s.name_fits s.fits nobody_fits s.name_short s.short committer_short (omega arith)); line = committer_word ++ who_text nobody; after = _; is = refl } in
+    line_lifts alike before (λ front. IsEnd k) (IsNoWho committer_word) a b l m k f g h e wants (no_committer a.hash name author) (λ front end. (end, some_text name (Line (author_word ++ who_text author) ∷ []) front)) s.moved le fails
 
-pub size_fails : (a b : Reading) (l m k : Option (List ℕ)) (f g h : ℕ) (name : List ℕ) (author committer : Signature) (e : ScriptError) → HasCommitter a b l m name author committer → f ≤ g → LineFails (λ front. IsEnd k) IsNoMessageLine b m k g h e → Fails Begins (BadAt a k) a l k f h e
+pub size_fails : (a b : Reading) (l m k : Option (List ℕ)) (f g h : ℕ) (name : List ℕ) (author committer : Signature) (e : ScriptError) → HasCommitter a b l m name author committer → f ≤ g → LineFails (λ front. IsEnd k) IsNoMessageLine b m k g h e → Fails (Begins a.hash) (BadAt a k) a l k f h e
 size_fails a b l m k f g h name author committer e s le fails =
     let t : Head = head_of name author committer [] in
     let more : List Item = Line (author_word ++ who_text author) ∷ Line (committer_word ++ who_text committer) ∷ [] in
-    let wants : WantsLine (Line (commit_line name) ∷ more) = record { request = Commit (commit_of t []); fits = bare t (head_fits name author committer [] s.name_fits s.author_fits s.fits s.name_short s.author_small s.short (omega arith)); line = message_line 0; after = _; is = refl } in
-    line_lifts alike (Line (commit_line name) ∷ more) (λ front. IsEnd k) IsNoMessageLine a b l m k f g h e wants (no_message name author committer) (λ front end. (end, some_text name more front)) s.moved le fails
+    let wants : WantsLine a.hash (Line (commit_line name) ∷ more) = record { request = Commit (commit_of t []); fits = bare a.hash t (head_fits name author committer [] s.name_fits s.author_fits s.fits s.name_short s.author_small s.short (omega arith)); line = message_line 0; after = _; is = refl } in
+    line_lifts alike (Line (commit_line name) ∷ more) (λ front. IsEnd k) IsNoMessageLine a b l m k f g h e wants (no_message a.hash name author committer) (λ front end. (end, some_text name more front)) s.moved le fails
 
-pub message_fails : (a b : Reading) (l m k : Option (List ℕ)) (f g h : ℕ) (name : List ℕ) (author committer : Signature) (size : ℕ) (e : ScriptError) → HasSize a b l m name author committer size → f ≤ g → BlockFails size b m k g h e → Fails Begins (BadAt a k) a l k f h e
+pub message_fails : (a b : Reading) (l m k : Option (List ℕ)) (f g h : ℕ) (name : List ℕ) (author committer : Signature) (size : ℕ) (e : ScriptError) → HasSize a b l m name author committer size → f ≤ g → BlockFails size b m k g h e → Fails (Begins a.hash) (BadAt a k) a l k f h e
 message_fails a b l m k f g h name author committer size e s le fails =
     let t : Head = head_of name author committer (replicate size 0) in
     let long : length (replicate size 0) ≡ size = length-replicate size 0 in
     let more : List Item = Line (author_word ++ who_text author) ∷ Line (committer_word ++ who_text committer) ∷ Line (message_line size) ∷ [] in
-    let wants : WantsBlock (Line (commit_line name) ∷ more) size = record {
+    let wants : WantsBlock a.hash (Line (commit_line name) ∷ more) size = record {
       request = Commit (commit_of t []);
-      fits = bare t (head_fits name author committer (replicate size 0) s.name_fits s.author_fits s.committer_fits s.name_short s.author_small s.committer_small (omega (arith, long, s.small)));
+      fits = bare a.hash t (head_fits name author committer (replicate size 0) s.name_fits s.author_fits s.committer_fits s.name_short s.author_small s.committer_small (omega (arith, long, s.small)));
       block = replicate size 0;
       after = _;
       size = long;
@@ -268,8 +269,8 @@ is_room : (head : Head) (es fs : List PathEdit) (room total size : ℕ) (here : 
 is_room head es fs room total size None h full count few more all = absurd (omega arith)
 is_room head es fs room total size (Some left) h here count few more all = omega (arith, here.1, h.room_is)
 
-no_change : (head : Head) (es : List PathEdit) (room : ℕ) (here : Option ℕ) → HasEdits head es room → MatchOption here (edit_limit ≤ length es) (λ left. (length es < edit_limit) × (left ≡ room)) → NeverGoesOn (before_edit head es) (IsNoChange here)
-no_change head es room here h at_ line wrong (Commit q) after fits is =
+no_change : (hash : HashKind) (head : Head) (es : List PathEdit) (room : ℕ) (here : Option ℕ) → HasEdits head es room → MatchOption here (edit_limit ≤ length es) (λ left. (length es < edit_limit) × (left ≡ room)) → NeverGoesOn hash (before_edit head es) (IsNoChange here)
+no_change hash head es room here h at_ line wrong (Commit q) after fits is =
     let rest : tail_items q.edits ≡ edits_items es ++ Line line ∷ after = cc in
     let message : q.message ≡ head.message = cc in
     let total : length head.message + sum_by block_size (edits_items q.edits) ≤ blocks_limit = let blocks : sum_by block_size (commit_items q) ≤ blocks_limit = fits.blocks in omega (arith, blocks, sum_commit q, ap length message) in
@@ -278,13 +279,13 @@ no_change head es room here h at_ line wrong (Commit q) after fits is =
       | inr p ↦ wrong.0 p.size p.path p.small (is_room head es q.edits room 0 p.size here h at_ p.count fits.form.count p.total total) p.is
     ]
 
-wants_change : (head : Head) (es : List PathEdit) (room : ℕ) → HasEdits head es room → WantsLine (before_edit head es)
-wants_change head es room h = record { request = Commit (commit_of head es); fits = is_request head es room h; line = end_line; after = []; is = sym (append_assoc (head_items head) (edits_items es) (Line end_line ∷ [])) }
+wants_change : (hash : HashKind) (head : Head) (es : List PathEdit) (room : ℕ) → HasEdits head es room → WantsLine hash (before_edit head es)
+wants_change hash head es room h = record { request = Commit (commit_of head es); fits = is_request hash head es room h; line = end_line; after = []; is = sym (append_assoc (head_items head) (edits_items es) (Line end_line ∷ [])) }
 
 pub change_fails : (a b : Reading) (l m k : Option (List ℕ)) (f g n : ℕ) (head : Head) (es : List PathEdit) (room : ℕ) (here : Option ℕ) (e : ScriptError) → SoFar a b l m head es room → MatchOption here (edit_limit ≤ length es) (λ left. (length es < edit_limit) × (left ≡ room))
-    → f ≤ g → LineFails (λ front. IsEnd k) (IsNoChange here) b m k g n e → Fails Begins (BadAt a k) a l k f n e
+    → f ≤ g → LineFails (λ front. IsEnd k) (IsNoChange here) b m k g n e → Fails (Begins a.hash) (BadAt a k) a l k f n e
 change_fails a b l m k f g n head es room here e s at_ le fails =
-    line_lifts alike (before_edit head es) (λ front. IsEnd k) (IsNoChange here) a b l m k f g n e (wants_change head es room s.edits) (no_change head es room here s.edits at_)
+    line_lifts alike (before_edit head es) (λ front. IsEnd k) (IsNoChange here) a b l m k f g n e (wants_change a.hash head es room s.edits) (no_change a.hash head es room here s.edits at_)
     (λ front end. (end, some_text head.name (Line (author_word ++ who_text head.author) ∷ Line (committer_word ++ who_text head.committer) ∷ Line (message_line (length head.message)) ∷ Block head.message ∷ edits_items es) front)) s.moved le fails
 
 -- The edits with one more.
@@ -342,15 +343,15 @@ before_more head es path bytes =
     ap (λ (x : List Item). head_items head ++ x) (items_with_file es path bytes)
     ∙ sym (append_assoc (before_edit head es) (Line (put_line (length bytes) path) ∷ []) (Block bytes ∷ []) ∙ append_assoc (head_items head) (edits_items es) (Line (put_line (length bytes) path) ∷ Block bytes ∷ []))
 
-pub file_fails : (a b : Reading) (l m k : Option (List ℕ)) (f g n : ℕ) (head : Head) (es : List PathEdit) (room size : ℕ) (path : List ℕ) (e : ScriptError) → HasPut a b l m head es room size path → f ≤ g → BlockFails size b m k g n e → Fails Begins (BadAt a k) a l k f n e
+pub file_fails : (a b : Reading) (l m k : Option (List ℕ)) (f g n : ℕ) (head : Head) (es : List PathEdit) (room size : ℕ) (path : List ℕ) (e : ScriptError) → HasPut a b l m head es room size path → f ≤ g → BlockFails size b m k g n e → Fails (Begins a.hash) (BadAt a k) a l k f n e
 file_fails a b l m k f g n head es room size path e h le fails =
     let bytes : List ℕ = replicate size 0 in
     let long : length bytes ≡ size = length-replicate size 0 in
     let before : List Item = before_edit head es ++ Line (put_line size path) ∷ [] in
     let more : List PathEdit = with_file es path bytes in
-    let wants : WantsBlock before size = record {
+    let wants : WantsBlock a.hash before size = record {
       request = Commit (commit_of head more);
-      fits = is_request head more (room - size) (edits_more a b l m head es room size (room - size) path bytes h long (omega (arith, h.fits)));
+      fits = is_request a.hash head more (room - size) (edits_more a b l m head es room size (room - size) path bytes h long (omega (arith, h.fits)));
       block = bytes;
       after = Line end_line ∷ [];
       size = long;
@@ -371,10 +372,10 @@ pub file_taken : (a b c : Reading) (l m k : Option (List ℕ)) (head : Head) (es
 file_taken a b c l m k head es room size path bytes h p = stays_any a c l k (items_text (before_edit head es ++ Line (put_line size path) ∷ []) ++ ended bytes) (moves_then a b c l m k (items_text (before_edit head es ++ Line (put_line size path) ∷ [])) (ended bytes) h.moved p)
 
 pub commit_ends : (a b c : Reading) (l m k : Option (List ℕ)) (head : Head) (es : List PathEdit) (room : ℕ) (here : Option ℕ) → SoFar a b l m head es room → GivesLine (SaysChange here None) b c m k
-    → IsRequest (Commit (commit_of head es)) × Moves a c l k (spelling (Commit (commit_of head es)))
+    → IsRequest a.hash (Commit (commit_of head es)) × Moves a c l k (spelling (Commit (commit_of head es)))
 unfolding spelling
 commit_ends a b c l m k head es room here s g = (
-  is_request head es room s.edits,
+  is_request a.hash head es room s.edits,
   subst (λ (x : List Item). Moves a c l k (items_text x)) (append_assoc (head_items head) (edits_items es) (Line end_line ∷ []))
       (moves_item (before_edit head es) (Line end_line) a b c l m k s.moved (subst (λ (x : List ℕ). Moves b c m k (ended x)) g.spelled g.moves)),
 )

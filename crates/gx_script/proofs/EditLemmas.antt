@@ -12,7 +12,7 @@ use Rattle.gx_edit.specs.declared.path_edit.PathEdit.{PathEdit}
 use Rattle.gx_edit.specs.declared.path_edit.PathEdit.TheVariants.{File, Link, Module, Remove}
 use Rattle.gx_object.specs.declared.signature.Signature.{Signature}
 use Rattle.gx_script.specs.Spelling.{Item, Line, Block, edit_items, who_text, commit_line, author_word, committer_word, message_line, put_line, end_line}
-use Rattle.gx_script.specs.Script.{NoNewline, IsBranch, IsIdentity, IsEdit, IsShort, block_size, block_limit}
+use Rattle.gx_script.specs.Script.{NoNewline, IsScriptName, IsIdentity, IsEdit, IsShort, block_size, block_limit}
 use Rattle.gx_script.proofs.LineLemmas.{same_split, without_append, decimal_without, no_space, no_line, who_line_open}
 use Rattle.gx_script.proofs.ItemLemmas.{AreAlike}
 
@@ -32,11 +32,11 @@ letters_open : (letters : List ℕ) → AllByRecursion IsAsciiAlphabetic letters
 letters_open [] p = tt
 letters_open (x ∷ xs) p = ((λ e. elim p.0 [ inl r ↦ absurd (omega arith) | inr r ↦ absurd (omega arith) ]), letters_open xs p.1)
 
-name_open : (name : List ℕ) → IsBranch name → NoNewline name
+name_open : (name : List ℕ) → IsScriptName name → NoNewline name
 name_open name (inl e) = subst NoNewline (sym e) (opens (codes "HEAD") refl)
 name_open name (inr (letters, some, all, e)) = subst NoNewline (sym e) (without_append 10 (codes "refs/heads/") letters (opens (codes "refs/heads/") refl) (letters_open letters all))
 
-pub commit_open : (name : List ℕ) → IsBranch name → NoNewline (commit_line name)
+pub commit_open : (name : List ℕ) → IsScriptName name → NoNewline (commit_line name)
 commit_open name h = without_append 10 (codes "commit ") name (opens (codes "commit ") refl) (name_open name h)
 
 pub author_open : (who : Signature) → IsIdentity who → NoNewline (author_word ++ who_text who)

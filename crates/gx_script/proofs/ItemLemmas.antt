@@ -2,6 +2,7 @@
 use Rattle.std.proofs.Common.{◌≡◌, ◌∙◌, sym, ap, refl, subst, ℕ, ◌≤◌, List, [], ◌∷◌, ◌++◌, length, take, drop, arith, append_assoc, length-append, Option, ◌⊎◌, inl, inr}
 use Rattle.std.proofs.lemmas.List.{append-nil, take_at, drop_at}
 use Rattle.std.proofs.lemmas.Grind.{flat_map-append}
+use Rattle.gx_hash.specs.declared.kind.HashKind.{HashKind}
 use Rattle.gx_script.specs.declared.request.Request.{Request}
 use Rattle.gx_script.specs.Spelling.{Item, Line, Block, item_text, items_text, items_of, spelling, ended}
 use Rattle.gx_script.specs.Script.{NoNewline, IsPartialLine, IsPart, IsRequest, Begins, IsMalformed}
@@ -29,7 +30,7 @@ abbrev pub Stands : List Item → List ℕ → Type 0
 Stands [] bytes = Unit {0}
 Stands (y ∷ ys) bytes = IsPart y bytes ⊎ ((more : List ℕ) × (bytes ≡ item_text y ++ more) × Stands ys more)
 
-open_ended : (l x : List ℕ) → ended l ++ x ≡ l ++ 10 ∷ x
+pub open_ended : (l x : List ℕ) → ended l ++ x ≡ l ++ 10 ∷ x
 open_ended l x = append_assoc l (10 ∷ []) x
 
 same_front : (a b x y : List ℕ) → length a ≡ length b → a ++ x ≡ b ++ y → (a ≡ b) × (x ≡ y)
@@ -44,9 +45,9 @@ stands_whole [] rest = tt
 stands_whole (x ∷ xs) rest = inr (items_text xs ++ rest, append_assoc (item_text x) (items_text xs) rest, stands_whole xs rest)
 
 -- Bytes that are no items of any request are malformed.
-never : (bytes : List ℕ) → ((r : Request) → IsRequest r → Stands (items_of r) bytes → ⊥) → IsMalformed bytes
+never : (hash : HashKind) (bytes : List ℕ) → ((r : Request) → IsRequest hash r → Stands (items_of r) bytes → ⊥) → IsMalformed hash bytes
 unfolding spelling
-never bytes f = record {
+never hash bytes f = record {
   part = λ b. f b.request b.fits (subst (λ (items : List Item). Stands items bytes) (sym b.place) (subst (Stands (b.before ++ b.next ∷ b.after)) (sym b.is) (stands_part b.before b.next b.after b.part b.begun)));
   whole = λ r rest fits e. f r fits (subst (Stands (items_of r)) (sym e) (stands_whole (items_of r) rest));
 }
@@ -57,7 +58,7 @@ no_part (Line a) (Block b) more k p = absurd k
 no_part (Block a) (Line b) more k p = absurd k
 no_part (Block a) (Block b) more k p = absurd (omega (arith, length-append (ended a) more, length-append a (10 ∷ [])))
 
-same_item : (x y : Item) (s t : List ℕ) → SameKind x y → item_text x ++ s ≡ item_text y ++ t → (x ≡ y) × (s ≡ t)
+pub same_item : (x y : Item) (s t : List ℕ) → SameKind x y → item_text x ++ s ≡ item_text y ++ t → (x ≡ y) × (s ≡ t)
 same_item (Line a) (Line b) s t k e =
     let r = same_split 10 a b s t k.0 k.1 (sym (open_ended a s) ∙ e ∙ open_ended b t) in (ap Line r.0, r.1)
 same_item (Line a) (Block b) s t k e = absurd k
@@ -105,43 +106,43 @@ wrong_block block after ((Block c) ∷ ys) front b alike (inr (more, e, s)) stop
 
 -- Each two requests are alike.
 abbrev pub AllAlike : Type 0
-AllAlike = (r s : Request) → IsRequest r → IsRequest s → AreAlike (items_of r) (items_of s)
+AllAlike = (hash : HashKind) (r s : Request) → IsRequest hash r → IsRequest hash s → AreAlike (items_of r) (items_of s)
 
 -- In some request a line comes next, or a block of a length.
-pub record WantsLine (before : List Item) : Type 0 where
+pub record WantsLine (hash : HashKind) (before : List Item) : Type 0 where
   pub request : Request
-  pub fits : IsRequest request
+  pub fits : IsRequest hash request
   pub line : List ℕ
   pub after : List Item
   pub is : items_of request ≡ before ++ Line line ∷ after
 
-pub record WantsBlock (before : List Item) (count : ℕ) : Type 0 where
+pub record WantsBlock (hash : HashKind) (before : List Item) (count : ℕ) : Type 0 where
   pub request : Request
-  pub fits : IsRequest request
+  pub fits : IsRequest hash request
   pub block : List ℕ
   pub after : List Item
   pub size : length block ≡ count
   pub is : items_of request ≡ before ++ Block block ∷ after
 
 -- A wrong line comes next in no request.
-abbrev pub NeverGoesOn : List Item → (List ℕ → Type 0) → Type 0
-NeverGoesOn before Wrong = (line : List ℕ) → Wrong line → (r : Request) (after : List Item) → IsRequest r → items_of r ≡ before ++ Line line ∷ after → ⊥
+abbrev pub NeverGoesOn : HashKind → List Item → (List ℕ → Type 0) → Type 0
+NeverGoesOn hash before Wrong = (line : List ℕ) → Wrong line → (r : Request) (after : List Item) → IsRequest hash r → items_of r ≡ before ++ Line line ∷ after → ⊥
 
-pub malformed_line : AllAlike → (before : List Item) (Wrong : List ℕ → Type 0) (front : List ℕ) (b : ℕ) → WantsLine before → NeverGoesOn before Wrong → IsPartialLine front → LineStops Wrong front b → IsMalformed (items_text before ++ (front ++ b ∷ []))
-malformed_line alike before Wrong front b w none part stops = never (items_text before ++ (front ++ b ∷ [])) (λ r fits stands.
-    let t = beyond before (Line w.line ∷ w.after) (items_of r) (front ++ b ∷ []) (subst (λ (items : List Item). AreAlike items (items_of r)) w.is (alike w.request r w.fits fits)) stands in
+pub malformed_line : AllAlike → (hash : HashKind) (before : List Item) (Wrong : List ℕ → Type 0) (front : List ℕ) (b : ℕ) → WantsLine hash before → NeverGoesOn hash before Wrong → IsPartialLine front → LineStops Wrong front b → IsMalformed hash (items_text before ++ (front ++ b ∷ []))
+malformed_line alike hash before Wrong front b w none part stops = never hash (items_text before ++ (front ++ b ∷ [])) (λ r fits stands.
+    let t = beyond before (Line w.line ∷ w.after) (items_of r) (front ++ b ∷ []) (subst (λ (items : List Item). AreAlike items (items_of r)) w.is (alike hash w.request r w.fits fits)) stands in
     wrong_line Wrong w.line w.after t.rest front b part t.alike t.stands stops (λ ys e wrong. none front wrong r ys fits (t.is ∙ ap (λ (l : List Item). before ++ l) e)))
 
-pub malformed_block : AllAlike → (before : List Item) (count : ℕ) (front : List ℕ) (b : ℕ) → WantsBlock before count → BlockStops count front b → IsMalformed (items_text before ++ (front ++ b ∷ []))
-malformed_block alike before count front b w stops = never (items_text before ++ (front ++ b ∷ [])) (λ r fits stands.
-    let t = beyond before (Block w.block ∷ w.after) (items_of r) (front ++ b ∷ []) (subst (λ (items : List Item). AreAlike items (items_of r)) w.is (alike w.request r w.fits fits)) stands in
+pub malformed_block : AllAlike → (hash : HashKind) (before : List Item) (count : ℕ) (front : List ℕ) (b : ℕ) → WantsBlock hash before count → BlockStops count front b → IsMalformed hash (items_text before ++ (front ++ b ∷ []))
+malformed_block alike hash before count front b w stops = never hash (items_text before ++ (front ++ b ∷ [])) (λ r fits stands.
+    let t = beyond before (Block w.block ∷ w.after) (items_of r) (front ++ b ∷ []) (subst (λ (items : List Item). AreAlike items (items_of r)) w.is (alike hash w.request r w.fits fits)) stands in
     wrong_block w.block w.after t.rest front b t.alike t.stands (stops.0 ∙ sym w.size, stops.1))
 
-pub begins_line : (before : List Item) (part : List ℕ) → WantsLine before → IsPartialLine part → Begins (items_text before ++ part)
-begins_line before part w h = record { request = w.request; before = before; next = Line w.line; after = w.after; part = part; fits = w.fits; place = w.is; begun = h; is = refl }
+pub begins_line : (hash : HashKind) (before : List Item) (part : List ℕ) → WantsLine hash before → IsPartialLine part → Begins hash (items_text before ++ part)
+begins_line hash before part w h = record { request = w.request; before = before; next = Line w.line; after = w.after; part = part; fits = w.fits; place = w.is; begun = h; is = refl }
 
-pub begins_block : (before : List Item) (count : ℕ) (part : List ℕ) → WantsBlock before count → length part ≤ count → Begins (items_text before ++ part)
-begins_block before count part w h = record { request = w.request; before = before; next = Block w.block; after = w.after; part = part; fits = w.fits; place = w.is; begun = omega (arith, w.size); is = refl }
+pub begins_block : (hash : HashKind) (before : List Item) (count : ℕ) (part : List ℕ) → WantsBlock hash before count → length part ≤ count → Begins hash (items_text before ++ part)
+begins_block hash before count part w h = record { request = w.request; before = before; next = Block w.block; after = w.after; part = part; fits = w.fits; place = w.is; begun = omega (arith, w.size); is = refl }
 
 items_text_more : (before : List Item) (x : Item) → items_text (before ++ x ∷ []) ≡ items_text before ++ item_text x
 items_text_more before x = flat_map-append item_text before (x ∷ []) ∙ ap (λ l. items_text before ++ l) (append-nil (item_text x))

@@ -4,6 +4,8 @@ pub mod ItemLemmas
 pub mod LiftLemmas
 pub mod LineLemmas
 pub mod NumberLemmas
+pub mod OneReading
+pub mod OneRequest
 pub mod OutsideLemmas
 pub mod ReaderLemmas
 pub mod SplitLemmas

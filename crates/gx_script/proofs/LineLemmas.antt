@@ -39,10 +39,6 @@ pub without_back : (c : ℕ) (xs ys : List ℕ) → Without c (xs ++ ys) → Wit
 without_back c [] ys p = p
 without_back c (x ∷ xs) ys p = without_back c xs ys p.1
 
--- A byte that is no digit.
-IsOther : ℕ → Type 0
-IsOther c = digit_value c < 10 → ⊥
-
 digits_without : (c : ℕ) (ds : List ℕ) → (digit_value c < 10 → ⊥) → AllDigits 10 ds → Without c ds
 digits_without c [] other p = tt
 digits_without c (d ∷ ds) other p = ((λ e. other (subst (λ x. digit_value x < 10) e p.0)), digits_without c ds other p.1)
@@ -60,7 +56,7 @@ no_space h = let k : 36 < 10 = h in absurd (omega arith)
 pub no_line : digit_value 10 < 10 → ⊥
 no_line h = let k : 36 < 10 = h in absurd (omega arith)
 
-signed_space : (z : ℤ) → FitsSigned w64 z → Without 32 (signed_decimal z)
+pub signed_space : (z : ℤ) → FitsSigned w64 z → Without 32 (signed_decimal z)
 signed_space z fits = signed_without 32 z no_space (λ e. absurd (omega arith)) fits
 
 signed_line : (z : ℤ) → FitsSigned w64 z → NoNewline (signed_decimal z)

@@ -102,7 +102,7 @@ pub is_positive : (bytes : List ℕ) (n : ℕ) (r : Option ℤ) → IsNotBehind 
 is_positive bytes n None behind e small large = no_large_positive bytes n behind e small large
 is_positive bytes n (Some z) behind e small found = e ∙ ap signed_decimal (sym found.1)
 
-mag_small : (z : ℤ) → FitsSigned w64 z → mag z < 2 ^ 63
+pub mag_small : (z : ℤ) → FitsSigned w64 z → mag z < 2 ^ 63
 mag_small (pos n) fits = fits_pos n fits
 mag_small (negsuc n) fits = fits_negsuc n fits
 

@@ -42,10 +42,11 @@ moves_then a b c l m n t u p q = record {
   room = omega (arith, length-append p.taken q.taken, p.room, q.room);
   newlines = omega (arith, newlines_append t u, p.newlines, q.newlines);
   failed = q.failed ∙ p.failed;
+  hash = q.hash ∙ p.hash;
 }
 
 pub moves_none : (a : Reading) (l : Option (List ℕ)) → Moves a a l l []
-moves_none a l = record { taken = []; takes = takes_none l; split = append-nil a.held; room = omega arith; newlines = omega arith; failed = refl }
+moves_none a l = record { taken = []; takes = takes_none l; split = append-nil a.held; room = omega arith; newlines = omega arith; failed = refl; hash = refl }
 
 pub stays_after : (P Q : List ℕ → Type 0) (a b : Reading) (l m n : Option (List ℕ)) (t : List ℕ) → Moves a b l m t → ((bytes : List ℕ) → Q bytes → P (t ++ bytes)) → Stays Q b m n → Stays P a l n
 stays_after P Q a b l m n t p f s = record {
@@ -231,6 +232,7 @@ moves_given b c m count new = record {
   room = omega (arith, ap (λ (r : Reading). r.room) new);
   newlines = ap (λ (r : Reading). r.newlines) new;
   failed = ap (λ (r : Reading). r.failed) new;
+  hash = ap (λ (r : Reading). r.hash) new;
 }
 
 pub line_given : (a b c : Reading) (l m : Option (List ℕ)) (size : ℕ) → Moves a b l m [] → BeginsLine b.held size → c ≡ given b (size + 1) → Moves a c l m (ended (take size b.held))

@@ -9,12 +9,12 @@ use Rattle.gx_script.specs.declared.request.Request.TheVariants.{Commit}
 use Rattle.gx_store.specs.Outside.{IsEnd}
 use Rattle.gx_script.specs.Lines.{IsNoCommitLine, IsNoPut, IsRoom}
 use Rattle.gx_script.specs.Reading.{Reading, Moves, Fails, BadAt}
-use Rattle.gx_script.specs.Script.{IsBranch, IsIdentity, IsShort, IsRequest, Begins, block_limit}
+use Rattle.gx_script.specs.Script.{IsScriptName, IsIdentity, IsShort, IsRequest, Begins, block_limit}
 use Rattle.gx_script.specs.Spelling.{Item, Line, Block, items_text, spelling, commit_line, author_word, committer_word, who_text, message_line, put_line, end_line}
 use Rattle.gx_script.specs.Steps.{GivesLine, LineFails}
 
 abbrev pub SaysCommit : List ℕ → List ℕ → Type 0
-SaysCommit name line = IsBranch name × (line ≡ commit_line name)
+SaysCommit name line = IsScriptName name × (line ≡ commit_line name)
 
 abbrev pub SaysWho : List ℕ → Signature → List ℕ → Type 0
 SaysWho word who line = IsIdentity who × (line ≡ word ++ who_text who)
@@ -45,7 +45,7 @@ abbrev pub head_items : Head → List Item
 head_items head = Line (commit_line head.name) ∷ Line (author_word ++ who_text head.author) ∷ Line (committer_word ++ who_text head.committer) ∷ Line (message_line (length head.message)) ∷ Block head.message ∷ []
 
 pub record IsHead (head : Head) : Type 0 where
-  pub name : IsBranch head.name
+  pub name : IsScriptName head.name
   pub author : IsIdentity head.author
   pub committer : IsIdentity head.committer
   pub short : AllByRecursion IsShort (head_items head)
@@ -53,9 +53,9 @@ pub record IsHead (head : Head) : Type 0 where
 abbrev pub ReadsHead : Reading → Reading → Option (List ℕ) → Option (List ℕ) → ℕ → ℕ → Result (Option Head) ScriptError → Type 0
 ReadsHead old new left left' faults faults' (Ok (Some head)) = IsHead head × Moves old new left left' (items_text (head_items head))
 ReadsHead old new left left' faults faults' (Ok None) = IsOver old new left left'
-ReadsHead old new left left' faults faults' (Err e) = Fails Begins (BadAt old left') old left left' faults faults' e
+ReadsHead old new left left' faults faults' (Err e) = Fails (Begins old.hash) (BadAt old left') old left left' faults faults' e
 
 abbrev pub ReadsCommit : Reading → Reading → Option (List ℕ) → Option (List ℕ) → ℕ → ℕ → Result (Option CommitRequest) ScriptError → Type 0
-ReadsCommit old new left left' faults faults' (Ok (Some request)) = IsRequest (Commit request) × Moves old new left left' (spelling (Commit request))
+ReadsCommit old new left left' faults faults' (Ok (Some request)) = IsRequest old.hash (Commit request) × Moves old new left left' (spelling (Commit request))
 ReadsCommit old new left left' faults faults' (Ok None) = IsOver old new left left'
-ReadsCommit old new left left' faults faults' (Err e) = Fails Begins (BadAt old left') old left left' faults faults' e
+ReadsCommit old new left left' faults faults' (Err e) = Fails (Begins old.hash) (BadAt old left') old left left' faults faults' e

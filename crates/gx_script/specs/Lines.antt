@@ -6,7 +6,7 @@ use Rattle.gx_object.specs.declared.signature.Signature.{Signature}
 use Rattle.gx_object.specs.declared.signature.Time.{Time}
 use Rattle.gx_script.specs.declared.lines.Change.{Change}
 use Rattle.gx_script.specs.declared.lines.Change.TheVariants.{Put, End}
-use Rattle.gx_script.specs.Script.{Without, IsBranch, IsIdentity, block_limit}
+use Rattle.gx_script.specs.Script.{Without, IsScriptName, IsIdentity, block_limit}
 use Rattle.gx_script.specs.Spelling.{who_text, commit_line, message_line, put_line, end_line}
 
 abbrev pub IsNoNumber : List ℕ → Type 0
@@ -25,7 +25,7 @@ pub record Splits (byte : ℕ) (bytes front back : List ℕ) : Type 0 where
   pub first : Without byte front
 
 abbrev pub IsNoCommitLine : List ℕ → Type 0
-IsNoCommitLine line = (name : List ℕ) → IsBranch name → line ≡ commit_line name → ⊥
+IsNoCommitLine line = (name : List ℕ) → IsScriptName name → line ≡ commit_line name → ⊥
 
 abbrev pub IsNoWho : List ℕ → List ℕ → Type 0
 IsNoWho word line = (who : Signature) → IsIdentity who → line ≡ word ++ who_text who → ⊥

@@ -1,4 +1,4 @@
--- How a request is spelled: by lines, and by blocks whose length the line before declares.
+-- How a request is spelled: by lines, and by blocks whose length the line before declares. (Ours; docs/SCRIPT.md.)
 use Rattle.std.specs.Prelude.{ℕ, List, [], ◌∷◌, ◌++◌, length, codes}
 use Rattle.std.specs.Fmt.{decimal, signed_decimal}
 use Rattle.std.specs.List.{flat_map}

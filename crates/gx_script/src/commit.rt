@@ -41,6 +41,7 @@ impl Head {
 fn commit_line<I: Source>(feed: &mut Feed, input: &mut I) -> Result<Option<FullName>, ScriptError>
     ensures line { ReadsFirst feed.old feed.new (I.left input.old) (I.left input.new) (I.faults input.old) (I.faults input.new) result }
     ensures later { I.faults input.old ≤ I.faults input.new }
+    ensures kind { feed.new.hash ≡ feed.old.hash }
 {
     let Some(size) = feed.find_line(input)? else {
         if feed.held().is_empty() {
@@ -64,6 +65,7 @@ fn identity_line<I: Source>(
 ) -> Result<Signature, ScriptError>
     ensures line { ReadsLine (SaysWho word.now) (IsNoWho word.now) feed.old feed.new (I.left input.old) (I.left input.new) (I.faults input.old) (I.faults input.new) result }
     ensures later { I.faults input.old ≤ I.faults input.new }
+    ensures kind { feed.new.hash ≡ feed.old.hash }
 {
     let size = feed.line(input)?;
     let Some(who) = identity(feed.alloc(), word, &feed.held()[..size])? else {
@@ -77,6 +79,7 @@ fn identity_line<I: Source>(
 fn message_line<I: Source>(feed: &mut Feed, input: &mut I) -> Result<usize, ScriptError>
     ensures line { ReadsLine SaysMessage IsNoMessageLine feed.old feed.new (I.left input.old) (I.left input.new) (I.faults input.old) (I.faults input.new) result }
     ensures later { I.faults input.old ≤ I.faults input.new }
+    ensures kind { feed.new.hash ≡ feed.old.hash }
 {
     let size = feed.line(input)?;
     let Some(count) = message_size(&feed.held()[..size]) else {
@@ -90,6 +93,7 @@ fn message_line<I: Source>(feed: &mut Feed, input: &mut I) -> Result<usize, Scri
 fn read_head<I: Source>(feed: &mut Feed, input: &mut I) -> Result<Option<Head>, ScriptError>
     ensures head { ReadsHead feed.old feed.new (I.left input.old) (I.left input.new) (I.faults input.old) (I.faults input.new) result }
     ensures later { I.faults input.old ≤ I.faults input.new }
+    ensures kind { feed.new.hash ≡ feed.old.hash }
 {
     let Some(name) = commit_line(feed, input)? else {
         return Ok(None);
@@ -114,6 +118,7 @@ fn change_line<I: Source>(
 ) -> Result<Option<(usize, Bytes)>, ScriptError>
     ensures line { ReadsLine (SaysChange room) (IsNoChange room) feed.old feed.new (I.left input.old) (I.left input.new) (I.faults input.old) (I.faults input.new) result }
     ensures later { I.faults input.old ≤ I.faults input.new }
+    ensures kind { feed.new.hash ≡ feed.old.hash }
 {
     let size = feed.line(input)?;
     match change_of(&feed.held()[..size], room) {
@@ -150,6 +155,7 @@ pub fn commit<I: Source>(
 ) -> Result<Option<CommitRequest>, ScriptError>
     ensures next { ReadsCommit feed.old feed.new (I.left input.old) (I.left input.new) (I.faults input.old) (I.faults input.new) result }
     ensures later { I.faults input.old ≤ I.faults input.new }
+    ensures kind { feed.new.hash ≡ feed.old.hash }
 {
     let Some(head) = read_head(feed, input)? else {
         return Ok(None);

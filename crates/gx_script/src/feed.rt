@@ -4,7 +4,7 @@ ghost use Rattle.gx_script.specs.Steps.{ReadOne, ReadOnto, Filled, FoundNewline,
 ghost use Rattle.std.specs.Prelude.{◌≡◌, ◌+◌, ◌≤◌, ◌<◌, [], length, take, drop, vec_len, MatchResult, None, Some};
 
 use crate::ScriptError;
-use gx_hash::{Bytes, NoMemory};
+use gx_hash::{Bytes, HashKind, NoMemory};
 use gx_store::Source;
 use memchr::memchr;
 use std::alloc::Global;
@@ -23,6 +23,7 @@ pub struct Feed {
     bytes: Vec<u8>,
     start: usize,
     alloc: Global,
+    hash: HashKind,
     room: u64,
     newlines: u64,
     failed: Option<ScriptError>,
@@ -34,7 +35,7 @@ impl Model for Feed {
 
     ghost Value = { Reading };
 
-    ghost view = { λ r. record { held = drop r.start r.bytes.items; room = r.room; newlines = r.newlines; failed = r.failed } };
+    ghost view = { λ r. record { hash = r.hash; held = drop r.start r.bytes.items; room = r.room; newlines = r.newlines; failed = r.failed } };
 
     ghost invariant = { λ r. (r.start ≤ vec_len r.bytes) × (r.newlines + (vec_len r.bytes - r.start) + r.room < 2 ^ 64) };
 }
@@ -116,13 +117,14 @@ fn cut_large(
 }
 
 impl Feed {
-    pub fn new(alloc: Global, limit: u64) -> Feed
-        ensures { result ≡ record { held = []; room = limit; newlines = 0; failed = None } }
+    pub fn new(alloc: Global, hash: HashKind, limit: u64) -> Feed
+        ensures { result ≡ record { hash = hash; held = []; room = limit; newlines = 0; failed = None } }
     {
         Feed {
             bytes: Vec::new(alloc),
             start: 0,
             alloc,
+            hash,
             room: limit,
             newlines: 0,
             failed: None,
@@ -169,6 +171,7 @@ impl Feed {
     fn fill<I: Source>(&mut self, wanted: usize, input: &mut I) -> Result<bool, ScriptError>
         ensures filled { Filled self.old self.new (I.left input.old) (I.left input.new) (I.faults input.old) (I.faults input.new) result }
         ensures later { I.faults input.old ≤ I.faults input.new }
+        ensures kind { self.new.hash ≡ self.old.hash }
     {
         if self.room == 0 {
             if read_one(input)? {
@@ -202,6 +205,7 @@ impl Feed {
     pub fn find_line<I: Source>(&mut self, input: &mut I) -> Result<Option<usize>, ScriptError>
         ensures found { FoundLine self.old self.new (I.left input.old) (I.left input.new) (I.faults input.old) (I.faults input.new) result }
         ensures later { I.faults input.old ≤ I.faults input.new }
+        ensures kind { self.new.hash ≡ self.old.hash }
     {
         let mut scanned = 0;
         'fills: loop {
@@ -225,6 +229,7 @@ impl Feed {
     pub fn line<I: Source>(&mut self, input: &mut I) -> Result<usize, ScriptError>
         ensures found { HasLine self.old self.new (I.left input.old) (I.left input.new) (I.faults input.old) (I.faults input.new) result }
         ensures later { I.faults input.old ≤ I.faults input.new }
+        ensures kind { self.new.hash ≡ self.old.hash }
     {
         match self.find_line(input)? {
             Some(size) => Ok(size),
@@ -247,6 +252,7 @@ impl Feed {
         requires { count ≤ block_limit }
         ensures found { FoundBlock count self.old self.new (I.left input.old) (I.left input.new) (I.faults input.old) (I.faults input.new) result }
         ensures later { I.faults input.old ≤ I.faults input.new }
+        ensures kind { self.new.hash ≡ self.old.hash }
     {
         'fills: while self.held().len() <= count {
             if !self.fill(count + 1, input)? {
@@ -275,6 +281,7 @@ impl Feed {
         requires { count ≤ block_limit }
         ensures block { ReadsBlock count self.old self.new (I.left input.old) (I.left input.new) (I.faults input.old) (I.faults input.new) result }
         ensures later { I.faults input.old ≤ I.faults input.new }
+        ensures kind { self.new.hash ≡ self.old.hash }
     {
         if !self.find_block(count, input)? {
             return Err(self.malformed_behind(newlines_of(self.held())));

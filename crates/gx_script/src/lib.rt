@@ -1,13 +1,14 @@
 //! The script language: requests, and the reader that takes them from a source one after another.
 //!
 //! A request is spelled by lines and blocks. A line ends with a newline; a block has the length that the line before
-//! it declares, and a newline behind it. The reader gives each request as soon as all of it is there, asks for no more
-//! than it needs to go on, and takes no byte past its limit.
+//! it declares, and a newline behind it. The reader takes at most one byte past its
+//! limit, and only to answer that the script is too long.
 #![tactic(auto)]
 
 mod commit;
 mod error;
 mod feed;
+pub mod laws;
 mod lines;
 mod number;
 mod reader;

@@ -1,5 +1,5 @@
 ghost use Rattle.gx_script.specs.Lines.{IsNoCommitLine, IsNoWho, IsNoSize, IsNoMessageLine, signature_of, IsRoom, IsNoPut, Says};
-ghost use Rattle.gx_script.specs.Script.{Without, IsBranch, IsIdentity, NoNewline, block_limit};
+ghost use Rattle.gx_script.specs.Script.{Without, IsScriptName, IsIdentity, NoNewline, block_limit};
 ghost use Rattle.gx_script.specs.Spelling.{commit_line, who_text, message_line, put_line, end_line};
 ghost use Rattle.std.specs.Fmt.{decimal};
 ghost use Rattle.std.specs.Prelude.{◌≡◌, ◌≢◌, ◌≤◌, ◌++◌, [], IfOk, MatchOption, MatchBool};
@@ -11,8 +11,8 @@ use gx_object::{Signature, Time};
 use std::alloc::Global;
 
 /// Whether the name is `HEAD`, or a branch whose short name is one or more ASCII letters.
-fn is_branch(name: &[u8]) -> bool
-    ensures { MatchBool result (IsBranch name.now) (IsBranch name.now → ⊥) }
+fn is_script_name(name: &[u8]) -> bool
+    ensures { MatchBool result (IsScriptName name.now) (IsScriptName name.now → ⊥) }
 {
     match after(name, b"refs/heads/") {
         Some(letters) => !letters.is_empty() && letters.iter().all(|b| b.is_ascii_alphabetic()),
@@ -22,10 +22,14 @@ fn is_branch(name: &[u8]) -> bool
 
 /// The name in the first line of a commit.
 pub fn commit_name(line: &[u8]) -> Option<&[u8]>
-    ensures { MatchOption result (IsNoCommitLine line.now) (λ name. IsBranch name.now × (line.now ≡ commit_line name.now)) }
+    ensures { MatchOption result (IsNoCommitLine line.now) (λ name. IsScriptName name.now × (line.now ≡ commit_line name.now)) }
 {
     let name = after(line, b"commit ")?;
-    if is_branch(name) { Some(name) } else { None }
+    if is_script_name(name) {
+        Some(name)
+    } else {
+        None
+    }
 }
 
 /// An identity as a line spells it.

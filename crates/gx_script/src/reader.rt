@@ -13,7 +13,6 @@ use std::marker::Model;
 #[derive(Drop)]
 pub struct ScriptReader {
     feed: Feed,
-    hash: HashKind,
 }
 
 impl Model for ScriptReader {
@@ -27,11 +26,10 @@ impl Model for ScriptReader {
 impl ScriptReader {
     /// A reader of a script with ids of the kind, and with at most `limit` bytes.
     pub fn new(alloc: Global, hash: HashKind, limit: u64) -> Result<ScriptReader, NoMemory>
-        ensures { IfOk result (λ reader. reader ≡ record { held = []; room = limit; newlines = 0; failed = None }) }
+        ensures { IfOk result (λ reader. reader ≡ record { hash = hash; held = []; room = limit; newlines = 0; failed = None }) }
     {
         Ok(ScriptReader {
-            feed: Feed::new(alloc, limit),
-            hash,
+            feed: Feed::new(alloc, hash, limit),
         })
     }
 
@@ -39,6 +37,7 @@ impl ScriptReader {
     fn request<I: Source>(&mut self, input: &mut I) -> Result<Option<Request>, ScriptError>
         ensures next { Next self.old self.new (I.left input.old) (I.left input.new) (I.faults input.old) (I.faults input.new) result }
         ensures later { I.faults input.old ≤ I.faults input.new }
+        ensures kind { self.new.hash ≡ self.old.hash }
     {
         match commit(&mut self.feed, input)? {
             Some(request) => Ok(Some(Request::Commit(request))),
@@ -50,6 +49,7 @@ impl ScriptReader {
     pub fn next<I: Source>(&mut self, input: &mut I) -> Result<Option<Request>, ScriptError>
         ensures next { self.old.failed ≡ None → Next self.old self.new (I.left input.old) (I.left input.new) (I.faults input.old) (I.faults input.new) result }
         ensures later { I.faults input.old ≤ I.faults input.new }
+        ensures kind { self.new.hash ≡ self.old.hash }
         ensures refused { IfErr result (λ e. self.new.failed ≡ Some e) }
         ensures again { (e : ScriptError) → self.old.failed ≡ Some e → (result ≡ Err e) × (self.new ≡ self.old) × (input.new ≡ input.old) }
     {

@@ -19,7 +19,7 @@ use Rattle.gx_store.specs.State.{RefState, stored}
 use Rattle.gx_store.specs.Change.{target_after, log_after}
 use Rattle.gx_store.specs.Slots.{with_at, with_change}
 use Rattle.gx_store.specs.declared.change.RefChange.{RefChange}
-use Rattle.gx_store.specs.Laws.{WritesOnce, WritingAdds, AddsTogether, AddedIsFound, FoundStays, OthersAreKept, EachIsMade}
+use Rattle.gx_store.specs.Laws.{WritesOnce, WritingAdds, AddsTogether, AddedIsFound, FoundStays, StoredStays, OthersAreKept, EachIsMade}
 use Rattle.gx_store.proofs.MapLemmas.{exact_names}
 use Rattle.gx_store.proofs.SlotLemmas.{tied, get_with_at, with_target-at, with_log-at}
 
@@ -156,6 +156,9 @@ stays None (Some t) (Some y) new is h = ap (λ n. option_or n (Some t)) is ∙ a
 
 pub found_stays : FoundStays
 found_stays hash objects old new apart adds id = stays (get old id) _ (object_at hash objects id) (get new id) (adds id) (agrees hash old objects apart.agreed id)
+
+pub stored_stays : StoredStays
+stored_stays hash objects old new adds id object e = adds id ∙ ap (λ o. option_or o (object_at hash objects id)) e
 
 -- ---- changes
 

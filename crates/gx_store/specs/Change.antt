@@ -57,7 +57,7 @@ abbrev pub HaveDistinctNames : List RefChange → Type 0
 HaveDistinctNames [] = Unit {0}
 HaveDistinctNames (change ∷ changes) = AllByRecursion (λ other. other.name ≢ change.name) changes × HaveDistinctNames changes
 
--- A change of many files that is cut short leaves at each name the target and the log from before, or those that the changes make.
+-- A change of many references that is cut short leaves at each name the target and the log from before, or those that the changes make.
 pub record IsTorn (changes : List RefChange) (old new : RefState) : Type 0 where
   pub targets : (name : List ℕ) → (get new.targets name ≡ get old.targets name) ⊎ (get new.targets name ≡ get (targets_after changes old.targets) name)
   pub logs : (name : List ℕ) → (get new.logs name ≡ get old.logs name) ⊎ (get new.logs name ≡ get (logs_after changes old.logs) name)

@@ -4,12 +4,12 @@ use Rattle.std.specs.FinMap.{FinMap, get}
 use Rattle.gx_rules.specs.Name.{name_cmp}
 use Rattle.gx_store.specs.declared.target.Target.{Target}
 
--- A name is a proper prefix of another, component by component, where the other is the name, a slash, and more.
+-- A name is a proper prefix of another, component by component, where the other is the name, a slash, and any bytes.
 abbrev pub IsProperPrefix : List ℕ → List ℕ → Type 0
 IsProperPrefix shorter longer = (rest : List ℕ) × (longer ≡ shorter ++ 47 ∷ rest)
 
 -- A reference can't be both a file and a directory of others: `refs/heads/a` can't stand beside `refs/heads/a/b`.
--- (Git, refs.c, "refs_verify_refname_available"; git-update-ref)
+-- (Git, refs.c, "refs_verify_refname_available")
 abbrev pub Conflict : List ℕ → List ℕ → Type 0
 Conflict a b = IsProperPrefix a b ⊎ IsProperPrefix b a
 

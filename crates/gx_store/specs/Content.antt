@@ -30,7 +30,11 @@ IsStored content id = IsSome (lookup content id)
 abbrev pub id_of : HashKind → Kind × List ℕ → ObjectId
 id_of hash object = object_id hash (kind_name object.0) object.1
 
--- A store keeps what it has: an object whose id is there is not written again. (gitprotocol and git-hash-object: objects are immutable)
+-- Each of the objects is found at its id.
+abbrev pub HoldsAll : HashKind → List (Kind × List ℕ) → Content → Type 0
+HoldsAll hash objects content = AllByRecursion (λ object. lookup content (id_of hash object) ≡ Some object) objects
+
+-- A store keeps what it has: an object whose id is there is not written again. (gitglossary(7), "object")
 abbrev pub with_object : ObjectId → Kind × List ℕ → Content → Content
 with_object id object content = if contains_key content id then content else insert content id object
 
@@ -54,7 +58,7 @@ AreOfOwnIds hash [] = Unit {0}
 AreOfOwnIds hash (object ∷ objects) = AllByRecursion (λ other. id_of hash other ≡ id_of hash object → other ≡ object) objects × AreOfOwnIds hash objects
 
 -- Git rests on no two objects sharing a digest, and on none having the null id. This says it of some objects and a content.
--- (gitformat-hash-function-transition, "Background")
+-- (hash-function-transition, "Background")
 pub record AreApart (hash : HashKind) (content : Content) (objects : List (Kind × List ℕ)) : Type 0 where
   pub named : AllByRecursion (λ object. id_of hash object ≢ null_id hash) objects
   pub own : AreOfOwnIds hash objects

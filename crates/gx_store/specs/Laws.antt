@@ -5,7 +5,7 @@ use Rattle.std.specs.FinMap.{get, contains_key}
 use Rattle.gx_hash.specs.declared.kind.HashKind.{HashKind}
 use Rattle.gx_hash.specs.declared.oid.ObjectId.{ObjectId}
 use Rattle.gx_object.specs.declared.kind.Kind.{Kind}
-use Rattle.gx_store.specs.Content.{Content, lookup, id_of, with_objects, Adds, AreApart}
+use Rattle.gx_store.specs.Content.{Content, lookup, with_objects, HoldsAll, Adds, AreApart}
 use Rattle.gx_store.specs.State.{StoreState, RefState, Becomes, HasCause, stored, all_stored}
 use Rattle.gx_store.specs.Change.{target_after, log_after, refs_after, applied, HaveDistinctNames, AfterFault}
 use Rattle.gx_store.specs.declared.change.RefChange.{RefChange}
@@ -25,11 +25,15 @@ AddsTogether = (hash : HashKind) (first second : List (Kind × List ℕ)) (old m
 
 -- Objects that share no digest are all found once they were added.
 abbrev pub AddedIsFound : Type 0
-AddedIsFound = (hash : HashKind) (objects : List (Kind × List ℕ)) (old new : Content) → AreApart hash old objects → Adds hash objects old new → AllByRecursion (λ object. lookup new (id_of hash object) ≡ Some object) objects
+AddedIsFound = (hash : HashKind) (objects : List (Kind × List ℕ)) (old new : Content) → AreApart hash old objects → Adds hash objects old new → HoldsAll hash objects new
 
 -- What is found stays found, as it is.
 abbrev pub FoundStays : Type 0
 FoundStays = (hash : HashKind) (objects : List (Kind × List ℕ)) (old new : Content) → AreApart hash old objects → Adds hash objects old new → (id : ObjectId) → IfSome (lookup old id) (λ object. lookup new id ≡ Some object)
+
+-- What is stored under an id stays under it, whatever is added.
+abbrev pub StoredStays : Type 0
+StoredStays = (hash : HashKind) (objects : List (Kind × List ℕ)) (old new : Content) → Adds hash objects old new → (id : ObjectId) (object : Kind × List ℕ) → get old id ≡ Some object → get new id ≡ Some object
 
 -- A name that no change names keeps its target and its log.
 abbrev pub OthersAreKept : Type 0

@@ -1,3 +1,4 @@
+pub mod Adapters
 pub mod Breaks
 pub mod Calls
 pub mod Change

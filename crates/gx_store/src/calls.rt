@@ -38,6 +38,12 @@ impl Calls {
         self.vec
     }
 
+    pub fn as_slice(&self) -> &[u64]
+        ensures { result.now ≡ self.now }
+    {
+        &self.vec
+    }
+
     pub fn contains(&self, call: u64) -> bool
         ensures { IsTrue result ↔ Contains self.now call }
     {

@@ -1,5 +1,5 @@
 //! Laws of what is stored and of what changes make, for proofs about stores. The functions do nothing.
-ghost use Rattle.gx_store.specs.Laws.{WritesOnce, WritingAdds, AddsTogether, AddedIsFound, FoundStays, OthersAreKept, EachIsMade, SameAfter, AppliedAfter, StoredAfter, CauseAfter, FaultAfter};
+ghost use Rattle.gx_store.specs.Laws.{WritesOnce, WritingAdds, AddsTogether, AddedIsFound, FoundStays, StoredStays, OthersAreKept, EachIsMade, SameAfter, AppliedAfter, StoredAfter, CauseAfter, FaultAfter};
 
 /// Writing an object whose id is there changes nothing.
 #[tactic(auto, using(crate::proofs::ContentLemmas::writes_once))]
@@ -28,6 +28,12 @@ pub fn added_is_found()
 #[tactic(auto, using(crate::proofs::ContentLemmas::found_stays))]
 pub fn found_stays()
     ensures { FoundStays }
+{}
+
+/// What is stored under an id stays under it, whatever is added.
+#[tactic(auto, using(crate::proofs::ContentLemmas::stored_stays))]
+pub fn stored_stays()
+    ensures { StoredStays }
 {}
 
 /// A name that no change names keeps its target and its log.

@@ -72,10 +72,10 @@ impl Lines {
         &self.vec
     }
 
-    pub fn try_clone(&self, alloc: Global) -> Result<Lines, NoMemory>
+    pub fn try_clone(&self) -> Result<Lines, NoMemory>
         ensures { IfOk result (λ copy. copy ≡ self.now) }
     {
-        Lines::from_slice(alloc, &self.vec)
+        Lines::from_slice(*self.vec.allocator(), &self.vec)
     }
 
     /// Copies of the lines.

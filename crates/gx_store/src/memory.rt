@@ -31,10 +31,13 @@ pub struct Memory {
 }
 
 impl Memory {
+    ghost use Rattle.std.specs.Prelude.{IsErr, IsErrOf, IsTrue};
     ghost use Rattle.gx_store.specs.Memory.{memory_state};
-    ghost use Rattle.gx_store.specs.State.{stored};
+    ghost use Rattle.gx_store.specs.State.{IfFault, IsUnreadable, stored};
     ghost use Rattle.gx_store.specs.Change.{applied, HaveDistinctNames};
-    ghost use Rattle.gx_store.specs.Calls.{calls_of, no_calls, is_due, counted, with_due};
+    ghost use Rattle.gx_store.specs.Calls.{calls_of, no_calls, is_due, counted, with_due, is_fault};
+    ghost use Rattle.gx_store.specs.declared.error.What.TheVariants as part;
+    ghost use Rattle.gx_store.specs.declared.error.StoreError.TheVariants.{NoMemory as no_memory};
     ghost use Rattle.gx_store.specs.Breaks.{Fails, fresh, with_broken_object, with_broken_name, with_broken_listing, with_object_put};
 
     /// A store of a new repository: without objects, and with a `HEAD` whose branch is not there yet.
@@ -89,18 +92,12 @@ impl Memory {
 
     /// From now on there are these bytes at the id, whatever was there, and whatever the id is the digest of.
     #[tactic(auto, unfolding(crate::specs::Memory::memory_state))]
-    pub fn put_raw(
-        &mut self,
-        alloc: Global,
-        id: ObjectId,
-        kind: Kind,
-        bytes: &[u8],
-    ) -> Result<(), NoMemory>
+    pub fn put_raw(&mut self, id: ObjectId, kind: Kind, bytes: &[u8]) -> Result<(), NoMemory>
         ensures ok { OnOk result (memory_state self.new ≡ with_object_put id (kind, bytes.now) (memory_state self.old)) }
         ensures err { OnErr result (memory_state self.new ≡ memory_state self.old) }
         ensures calls { calls_of self.new ≡ calls_of self.old }
     {
-        let bytes = Bytes::from_slice(alloc, bytes)?;
+        let bytes = Bytes::from_slice(*self.broken_objects.allocator(), bytes)?;
         maps::put_object(&mut self.objects, id, kind, bytes)
     }
 
@@ -112,6 +109,50 @@ impl Memory {
         ensures err { OnErr result (calls_of self.new ≡ calls_of self.old) }
     {
         self.failing.push(nth)?;
+        Ok(())
+    }
+
+    /// A fault where tests have broken the object.
+    #[tactic(auto, unfolding(crate::specs::Memory::memory_state))]
+    fn check_object(&self, id: &ObjectId) -> Result<(), StoreError>
+        ensures fault { IfFault result (IsUnreadable (memory_state self.now) (part.Object id.now)) }
+        ensures broken { is_fault result ≡ (memory_state self.now).unreadable (part.Object id.now) }
+        ensures memory { IsErrOf result no_memory → ⊥ }
+    {
+        if self.broken_objects.contains(id) {
+            return Err(StoreError::Fault {
+                what: What::Object(*id),
+            });
+        }
+        Ok(())
+    }
+
+    /// A fault where tests have broken the name.
+    #[tactic(auto, unfolding(crate::specs::Memory::memory_state))]
+    fn check_name(&self, name: &FullName) -> Result<(), StoreError>
+        ensures fault { IfFault result (IsUnreadable (memory_state self.now) (part.Name name.now)) }
+        ensures broken { IsTrue ((memory_state self.now).unreadable (part.Name name.now)) → IsErr result }
+    {
+        if self.broken_names.contains(name) {
+            return Err(StoreError::Fault {
+                what: What::Name(name.try_clone()?),
+            });
+        }
+        Ok(())
+    }
+
+    /// A fault where tests have broken the listing.
+    #[tactic(auto, unfolding(crate::specs::Memory::memory_state))]
+    fn check_listing(&self) -> Result<(), StoreError>
+        ensures fault { IfFault result (IsUnreadable (memory_state self.now) part.Listing) }
+        ensures broken { is_fault result ≡ (memory_state self.now).unreadable part.Listing }
+        ensures memory { IsErrOf result no_memory → ⊥ }
+    {
+        if self.is_listing_broken {
+            return Err(StoreError::Fault {
+                what: What::Listing,
+            });
+        }
         Ok(())
     }
 
@@ -172,40 +213,50 @@ impl Meanings for Memory {
 
 #[tactic(auto, unfolding(crate::specs::Memory::memory_state))]
 impl Objects for Memory {
-    ghost use Rattle.gx_store.specs.Memory.{memory_state};
+    ghost use Rattle.std.specs.Prelude.{IfSome, IsErrOf, option_map};
+    ghost use Rattle.std.specs.FinMap.{get, contains_key};
     ghost use Rattle.gx_hash.specs.ObjectId.{object_id};
     ghost use Rattle.gx_object.specs.Kind.{kind_name};
-    ghost use Rattle.gx_store.specs.State.{Becomes, HasCause, IfFault, stored};
+    ghost use Rattle.gx_store.specs.Memory.{memory_state};
+    ghost use Rattle.gx_store.specs.Headers.{header_of};
+    ghost use Rattle.gx_store.specs.State.{Becomes, HasCause, IfFault, IsUnreadable, stored};
     ghost use Rattle.gx_store.specs.Calls.{calls_of, is_due, counted, is_fault};
+    ghost use Rattle.gx_store.specs.declared.error.What.TheVariants as part;
+    ghost use Rattle.gx_store.specs.declared.error.StoreError.TheVariants.{NoMemory as no_memory};
 
     fn hash_kind(&self) -> HashKind {
         self.hash
     }
 
-    fn read(&self, _alloc: Global, id: &ObjectId) -> Result<Option<(Kind, Bytes)>, StoreError> {
-        if self.broken_objects.contains(id) {
-            return Err(StoreError::Fault {
-                what: What::Object(*id),
-            });
-        }
+    fn read(&self, _alloc: Global, id: &ObjectId) -> Result<Option<(Kind, Bytes)>, StoreError>
+        ensures found { IfOk result (λ found. IfSome (memory_state self.now).content (λ content.
+            found ≡ get content id.now)) }
+        ensures fault { IfFault result (IsUnreadable (memory_state self.now) (part.Object id.now)) }
+        ensures broken { is_fault result ≡ (memory_state self.now).unreadable (part.Object id.now) }
+    {
+        self.check_object(id)?;
         Ok(maps::object_at(&self.objects, id)?)
     }
 
-    fn header(&self, _alloc: Global, id: &ObjectId) -> Result<Option<Header>, StoreError> {
-        if self.broken_objects.contains(id) {
-            return Err(StoreError::Fault {
-                what: What::Object(*id),
-            });
-        }
+    fn header(&self, _alloc: Global, id: &ObjectId) -> Result<Option<Header>, StoreError>
+        ensures found { IfOk result (λ found. IfSome (memory_state self.now).content (λ content.
+            found ≡ option_map header_of (get content id.now))) }
+        ensures fault { IfFault result (IsUnreadable (memory_state self.now) (part.Object id.now)) }
+        ensures broken { is_fault result ≡ (memory_state self.now).unreadable (part.Object id.now) }
+        ensures memory { IsErrOf result no_memory → ⊥ }
+    {
+        self.check_object(id)?;
         Ok(maps::header_at(&self.objects, id))
     }
 
-    fn exists(&self, _alloc: Global, id: &ObjectId) -> Result<bool, StoreError> {
-        if self.broken_objects.contains(id) {
-            return Err(StoreError::Fault {
-                what: What::Object(*id),
-            });
-        }
+    fn exists(&self, _alloc: Global, id: &ObjectId) -> Result<bool, StoreError>
+        ensures found { IfOk result (λ found. IfSome (memory_state self.now).content (λ content.
+            found ≡ contains_key content id.now)) }
+        ensures fault { IfFault result (IsUnreadable (memory_state self.now) (part.Object id.now)) }
+        ensures broken { is_fault result ≡ (memory_state self.now).unreadable (part.Object id.now) }
+        ensures memory { IsErrOf result no_memory → ⊥ }
+    {
+        self.check_object(id)?;
         Ok(maps::has_object(&self.objects, id))
     }
 
@@ -233,59 +284,70 @@ impl Objects for Memory {
 
 #[tactic(auto, unfolding(crate::specs::Memory::memory_state))]
 impl References for Memory {
-    ghost use Rattle.std.specs.Prelude.{IsErrOf};
+    ghost use Rattle.std.specs.Prelude.{IfSome, IfNone, IsErr, IsErrOf, IsSome, IsTrue, filter, nat_eq};
+    ghost use Rattle.std.specs.List.{starts_with};
+    ghost use Rattle.std.specs.FinMap.{get, contains_key, keys};
     ghost use Rattle.gx_store.specs.Memory.{memory_state};
-    ghost use Rattle.gx_store.specs.State.{Becomes, HasCause, IfFault};
+    ghost use Rattle.gx_store.specs.Conflict.{Conflict, IsFree};
+    ghost use Rattle.gx_store.specs.Kinds.{IsTargetOfKind, AreLinesOfKind};
+    ghost use Rattle.gx_store.specs.State.{Becomes, HasCause, IfFault, IsUnreadable};
+    ghost use Rattle.gx_store.specs.declared.error.What.TheVariants as part;
     ghost use Rattle.gx_store.specs.Change.{applied, HaveDistinctNames, AfterFault};
     ghost use Rattle.gx_store.specs.Calls.{calls_of, is_due, counted, is_fault};
     ghost use Rattle.gx_store.specs.declared.error.StoreError.TheVariants.{NoMemory as no_memory};
 
-    fn find(&self, _alloc: Global, name: &FullName) -> Result<Option<Target>, StoreError> {
-        if self.broken_names.contains(name) {
-            return Err(StoreError::Fault {
-                what: What::Name(name.try_clone()?),
-            });
-        }
+    fn find(&self, _alloc: Global, name: &FullName) -> Result<Option<Target>, StoreError>
+        ensures found { IfOk result (λ found. IfSome (memory_state self.now).references (λ refs.
+            found ≡ get refs.targets name.now)) }
+        ensures kind { IfOk result (λ found. IfSome found (IsTargetOfKind (memory_state self.now).hash)) }
+        ensures fault { IfFault result (IsUnreadable (memory_state self.now) (part.Name name.now)) }
+        ensures broken { IsTrue ((memory_state self.now).unreadable (part.Name name.now)) → IsErr result }
+    {
+        self.check_name(name)?;
         Ok(slots::target_at(&self.slots, name)?)
     }
 
-    fn log(&self, alloc: Global, name: &FullName) -> Result<Option<Lines>, StoreError> {
-        if self.broken_names.contains(name) {
-            return Err(StoreError::Fault {
-                what: What::Name(name.try_clone()?),
-            });
-        }
+    fn log(&self, alloc: Global, name: &FullName) -> Result<Option<Lines>, StoreError>
+        ensures found { IfOk result (λ found. IfSome (memory_state self.now).references (λ refs.
+            found ≡ get refs.logs name.now)) }
+        ensures kind { IfOk result (λ found. IfSome found (AreLinesOfKind (memory_state self.now).hash)) }
+        ensures fault { IfFault result (IsUnreadable (memory_state self.now) (part.Name name.now)) }
+        ensures broken { IsTrue ((memory_state self.now).unreadable (part.Name name.now)) → IsErr result }
+    {
+        self.check_name(name)?;
         Ok(slots::log_at(alloc, &self.slots, name)?)
     }
 
-    fn log_exists(&self, _alloc: Global, name: &FullName) -> Result<bool, StoreError> {
-        if self.broken_names.contains(name) {
-            return Err(StoreError::Fault {
-                what: What::Name(name.try_clone()?),
-            });
-        }
+    fn log_exists(&self, _alloc: Global, name: &FullName) -> Result<bool, StoreError>
+        ensures found { IfOk result (λ found. IfSome (memory_state self.now).references (λ refs.
+            found ≡ contains_key refs.logs name.now)) }
+        ensures fault { IfFault result (IsUnreadable (memory_state self.now) (part.Name name.now)) }
+        ensures broken { IsTrue ((memory_state self.now).unreadable (part.Name name.now)) → IsErr result }
+    {
+        self.check_name(name)?;
         Ok(slots::has_log(&self.slots, name))
     }
 
-    fn find_conflict(
-        &self,
-        alloc: Global,
-        name: &FullName,
-    ) -> Result<Option<FullName>, StoreError> {
-        if self.is_listing_broken {
-            return Err(StoreError::Fault {
-                what: What::Listing,
-            });
-        }
+    fn find_conflict(&self, alloc: Global, name: &FullName) -> Result<Option<FullName>, StoreError>
+        ensures conflict { IfOk result (λ found. IfSome found (Conflict name.now)) }
+        ensures stored { IfOk result (λ found. IfSome found (λ other. IfSome (memory_state self.now).references (λ refs.
+            IsSome (get refs.targets other)))) }
+        ensures none { IfOk result (λ found. IfNone found (IfSome (memory_state self.now).references (λ refs.
+            IsFree refs.targets name.now))) }
+        ensures fault { IfFault result (IsUnreadable (memory_state self.now) part.Listing) }
+        ensures broken { is_fault result ≡ (memory_state self.now).unreadable part.Listing }
+    {
+        self.check_listing()?;
         Ok(conflict::conflict_of(alloc, &self.slots, name)?)
     }
 
-    fn list(&self, alloc: Global, prefix: &[u8]) -> Result<Names, StoreError> {
-        if self.is_listing_broken {
-            return Err(StoreError::Fault {
-                what: What::Listing,
-            });
-        }
+    fn list(&self, alloc: Global, prefix: &[u8]) -> Result<Names, StoreError>
+        ensures found { IfOk result (λ names. IfSome (memory_state self.now).references (λ refs.
+            names ≡ filter (λ name. starts_with nat_eq name prefix.now) (keys refs.targets))) }
+        ensures fault { IfFault result (IsUnreadable (memory_state self.now) part.Listing) }
+        ensures broken { is_fault result ≡ (memory_state self.now).unreadable part.Listing }
+    {
+        self.check_listing()?;
         Ok(slots::names_of(alloc, &self.slots, prefix)?)
     }
 

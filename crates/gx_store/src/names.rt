@@ -46,10 +46,10 @@ impl Names {
         &self.vec
     }
 
-    pub fn try_clone(&self, alloc: Global) -> Result<Names, NoMemory>
+    pub fn try_clone(&self) -> Result<Names, NoMemory>
         ensures { IfOk result (λ copy. copy ≡ self.now) }
     {
-        let mut copies = Vec::with_capacity(alloc, self.vec.len())?;
+        let mut copies = Vec::with_capacity(*self.vec.allocator(), self.vec.len())?;
         for name in self.vec.as_slice() {
             copies.push(name.try_clone()?)?;
         }

@@ -1,4 +1,5 @@
-ghost use Rattle.std.specs.Prelude.{None};
+ghost use Rattle.std.specs.Prelude.{◌≡◌, None};
+ghost use Rattle.gx_store.specs.Adapters.{writer_of, write_faults};
 
 use crate::{Sink, SinkError};
 use std::io::Write;
@@ -11,7 +12,10 @@ pub struct StdSink<W> {
 }
 
 impl<W: Write + Drop> StdSink<W> {
-    pub fn new(inner: W) -> Self {
+    pub fn new(inner: W) -> Self
+        ensures inner { writer_of result ≡ inner }
+        ensures faults { write_faults result ≡ 0 }
+    {
         StdSink { inner, faults: 0 }
     }
 }
@@ -19,7 +23,7 @@ impl<W: Write + Drop> StdSink<W> {
 impl<W: Write + Drop> Sink for StdSink<W> {
     ghost written = { λ s. None };
 
-    ghost faults = { λ s. s.faults };
+    ghost faults = { write_faults };
 
     fn write(&mut self, piece: &[u8]) -> Result<usize, SinkError> {
         match self.inner.write(piece) {
@@ -55,11 +59,15 @@ mod tests {
     fn a_write_of_nothing_is_a_fault(rt: HostRuntime) {
         let mut sink = StdSink::new(Full);
         assert_eq!(rt; sink.write(b"ab"), Err(SinkError::Failed));
+        assert_eq!(rt; sink.faults, 1);
     }
 
     #[test]
     fn a_writer_takes_what_is_written(rt: HostRuntime) {
         let mut sink = StdSink::new(Vec::new(rt.alloc()));
         assert_eq!(rt; sink.write(b"ab"), Ok(2));
+        assert_eq!(rt; sink.write(b"c"), Ok(1));
+        assert_eq!(rt; sink.inner.as_slice(), b"abc".as_slice());
+        assert_eq!(rt; sink.faults, 0);
     }
 }

@@ -1,4 +1,4 @@
-ghost use Rattle.std.specs.Prelude.{◌≡◌, ◌≤◌, ◌∷◌, [], ℕ, length, take, IfOk, OnOk, OnErr};
+ghost use Rattle.std.specs.Prelude.{◌≡◌, ◌<◌, ◌∷◌, [], ℕ, length, take, IfOk, OnOk, OnErr};
 ghost use Rattle.gx_hash.specs.HashKind.{IsOfKind};
 ghost use Rattle.gx_store.specs.Content.{id_of};
 ghost use Rattle.gx_store.specs.State.{Becomes, HasCause, IfFault, all_stored};
@@ -33,7 +33,7 @@ pub fn write_objects<S: Objects>(
     objects: &[(Kind, Bytes)],
 ) -> Result<(), StoreError>
     ensures ok { OnOk result (Becomes (all_stored objects.now (S.state store.old)) (S.state store.new)) }
-    ensures err { OnErr result ((n : ℕ) × (n ≤ length objects.now) × Becomes (all_stored (take n objects.now) (S.state store.old)) (S.state store.new)) }
+    ensures err { OnErr result ((n : ℕ) × (n < length objects.now) × Becomes (all_stored (take n objects.now) (S.state store.old)) (S.state store.new)) }
     ensures fault { IfFault result (HasCause (S.state store.old) (S.state store.new)) }
 {
     for object in objects {

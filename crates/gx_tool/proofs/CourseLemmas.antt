@@ -8,15 +8,16 @@ use Rattle.std.proofs.lemmas.Grind.{flat_map-append}
 use Rattle.gx_tool.specs.declared.reply.Reply.{Reply}
 use Rattle.gx_tool.specs.declared.status.Status.{Status}
 use Rattle.gx_tool.specs.declared.status.Status.TheVariants.{Done, Refusals, Malformed, ReadFault, WriteFault, NoMemory, StoreFault, TooLong}
+use Rattle.gx_hash.specs.declared.kind.HashKind.{HashKind}
 use Rattle.gx_store.specs.State.{StoreState}
 use Rattle.gx_store.specs.Faults.{Rose}
 use Rattle.gx_store.specs.Outside.{Takes, IsEnd, Writes}
 use Rattle.gx_script.specs.declared.request.Request.{Request}
 use Rattle.gx_script.specs.declared.request.Request.TheVariants.{Commit}
 use Rattle.gx_script.specs.Spelling.{spelling, ended, commit_line}
-use Rattle.gx_script.specs.Script.{IsRequest, Begins}
+use Rattle.gx_script.specs.Script.{IsRequest, Begins, IsBad}
 use Rattle.gx_script.specs.Reading.{Reading, Moves, Stays, Overruns, BadAt, Anything}
-use Rattle.gx_tool.specs.Machine.{Step, Run, Fails}
+use Rattle.gx_tool.specs.Serving.{Serves, ServesAll, Stops}
 use Rattle.gx_tool.specs.Reply.{texts, reply_text, all_accepted, is_accepted}
 use Rattle.gx_tool.specs.declared.execute.ExecuteError.{ExecuteError}
 use Rattle.gx_tool.specs.declared.execute.ExecuteError.TheVariants as no_reply
@@ -32,18 +33,23 @@ pub record SoFar (limit : ℕ) (start now : Moment) (reading : Reading) (accepte
   pub room : taken_count requests reading.held + reading.room ≡ limit
   pub all : all_accepted replies ≡ accepted
   pub fine : reading.failed ≡ None
+  pub kind : reading.hash ≡ start.store.hash
   pub source_later : start.source_faults ≤ now.source_faults
   pub sink_later : start.sink_faults ≤ now.sink_faults
 
-run_more : (old mid new : StoreState) (requests : List Request) (replies : List Reply) (request : Request) (reply : Reply) → Run old requests replies mid → Step mid request reply new → Run old (requests ++ request ∷ []) (replies ++ reply ∷ []) new
-run_more old mid new [] [] request reply h s = (new, subst (λ o. Step o request reply new) h s, refl)
+run_more : (old mid new : StoreState) (requests : List Request) (replies : List Reply) (request : Request) (reply : Reply) → ServesAll old requests replies mid → Serves mid request reply new → ServesAll old (requests ++ request ∷ []) (replies ++ reply ∷ []) new
+run_more old mid new [] [] request reply h s = (new, subst (λ o. Serves o request reply new) h s, refl)
 run_more old mid new [] (r ∷ rs) request reply h s = absurd h
 run_more old mid new (q ∷ qs) [] request reply h s = absurd h
 run_more old mid new (q ∷ qs) (r ∷ rs) request reply h s = (h.0, h.1, run_more h.0 mid new qs rs request reply h.2 s)
 
-each_more : (requests : List Request) (request : Request) → AllByRecursion IsRequest requests → IsRequest request → AllByRecursion IsRequest (requests ++ request ∷ [])
-each_more [] request h r = (r, tt)
-each_more (q ∷ qs) request h r = (h.0, each_more qs request h.1 r)
+each_more : (hash : HashKind) (requests : List Request) (request : Request) → AllByRecursion (IsRequest hash) requests → IsRequest hash request → AllByRecursion (IsRequest hash) (requests ++ request ∷ [])
+each_more hash [] request h r = (r, tt)
+each_more hash (q ∷ qs) request h r = (h.0, each_more hash qs request h.1 r)
+
+-- the reader gives requests of the store's kind
+fits_store : (limit : ℕ) (start now : Moment) (reading : Reading) (accepted : Bool) (request : Request) → SoFar limit start now reading accepted → IsRequest reading.hash request → IsRequest start.store.hash request
+fits_store limit start now reading accepted request s fits = subst (λ (h : HashKind). IsRequest h request) s.kind fits
 
 pub spellings_more : (requests : List Request) (request : Request) → flat_map spelling (requests ++ request ∷ []) ≡ flat_map spelling requests ++ spelling request
 spellings_more requests request = flat_map-append spelling requests (request ∷ []) ∙ ap (λ l. flat_map spelling requests ++ l) (append-nil (spelling request))
@@ -63,8 +69,8 @@ split_more : (done held taken text held' : List ℕ) → held ++ taken ≡ text 
 split_more done held taken text held' e = append_assoc done held taken ∙ ap (λ l. done ++ l) e ∙ sym (append_assoc done text held')
 
 pub so_far_more : (limit : ℕ) (start now next : Moment) (old new : Reading) (accepted : Bool) (block : Request) (reply : Reply)
-    → SoFar limit start now old accepted → IsRequest block → Moves old new now.left next.left (spelling block)
-    → Step now.store block reply next.store → Writes now.written next.written (reply_text reply)
+    → SoFar limit start now old accepted → IsRequest old.hash block → Moves old new now.left next.left (spelling block)
+    → Serves now.store block reply next.store → Writes now.written next.written (reply_text reply)
     → now.source_faults ≤ next.source_faults → now.sink_faults ≤ next.sink_faults
     → SoFar limit start next new (accepted && is_accepted reply)
 so_far_more limit start now next old new accepted block reply s fits m step w source sink =
@@ -75,18 +81,19 @@ so_far_more limit start now next old new accepted block reply s fits m step w so
       replies = s.replies ++ reply ∷ [];
       course = record {
         takes = subst (Takes start.left next.left) (sym whole) (takes_then start.left now.left next.left (flat_map spelling s.requests ++ old.held) m.taken s.course.takes m.takes);
-        each = each_more s.requests block s.course.each fits;
+        each = each_more start.store.hash s.requests block s.course.each (fits_store limit start now old accepted block s fits);
         run = run_more start.store now.store next.store s.requests s.replies block reply s.course.run step;
         writes = subst (Writes start.written next.written) (sym (texts_more s.replies reply)) (writes_then start.written now.written next.written (texts s.replies) (reply_text reply) s.course.writes w);
       };
       room = omega (arith, ap length whole ∙ length-append (flat_map spelling s.requests ++ old.held) m.taken, m.room, s.room);
       all = accepted_more s.replies reply ∙ ap (λ b. b && is_accepted reply) s.all;
       fine = m.failed ∙ s.fine;
+      kind = m.hash ∙ s.kind;
       source_later = omega (arith, s.source_later);
       sink_later = omega (arith, s.sink_later);
     }
 
-pub so_far_first : (limit : ℕ) (m : Moment) → SoFar limit m m (record { held = []; room = limit; newlines = 0; failed = None }) true
+pub so_far_first : (limit : ℕ) (m : Moment) → SoFar limit m m (record { hash = m.store.hash; held = []; room = limit; newlines = 0; failed = None }) true
 so_far_first limit m = record {
   requests = [];
   replies = [];
@@ -94,6 +101,7 @@ so_far_first limit m = record {
   room = omega arith;
   all = refl;
   fine = refl;
+  kind = refl;
   source_later = omega arith;
   sink_later = omega arith;
 }
@@ -161,22 +169,22 @@ pub ends_malformed : (limit line : ℕ) (start now next : Moment) (old : Reading
     → SoFar limit start now old accepted → Stays (BadAt old next.left line) old now.left next.left
     → next.written ≡ now.written → next.store ≡ now.store → Served limit start next Malformed
 ends_malformed limit line start now next old accepted s m written store =
-    stays_within limit start now next old accepted Malformed (BadAt old next.left line) s m written (λ replies rest out requests few bad all. (few, (bad.0, bad.1), all, store))
+    stays_within limit start now next old accepted Malformed (BadAt old next.left line) s m written (λ replies rest out requests few bad all. (few, (bad.0, subst (λ (h : HashKind). IsBad h rest (IsEnd next.left) bad.0) s.kind bad.1), all, store))
 
 pub ends_read_fault : (limit : ℕ) (start now next : Moment) (old : Reading) (accepted : Bool)
-    → SoFar limit start now old accepted → Stays Begins old now.left next.left → Rose now.source_faults next.source_faults
+    → SoFar limit start now old accepted → Stays (Begins old.hash) old now.left next.left → Rose now.source_faults next.source_faults
     → next.written ≡ now.written → next.store ≡ now.store → Served limit start next ReadFault
 ends_read_fault limit start now next old accepted s m rose written store =
-    stays_within limit start now next old accepted ReadFault Begins s m written (λ replies rest out requests few begins all. (few, begins, rose_before start.source_faults now.source_faults next.source_faults s.source_later rose, all, store))
+    stays_within limit start now next old accepted ReadFault (Begins old.hash) s m written (λ replies rest out requests few begins all. (few, subst (λ (h : HashKind). Begins h rest) s.kind begins, rose_before start.source_faults now.source_faults next.source_faults s.source_later rose, all, store))
 
 pub ends_no_memory : (limit : ℕ) (start now next : Moment) (old : Reading) (accepted : Bool)
     → SoFar limit start now old accepted → Stays Anything old now.left next.left
     → next.written ≡ now.written → next.store ≡ now.store → Served limit start next NoMemory
 ends_no_memory limit start now next old accepted s m written store =
-    stays_within limit start now next old accepted NoMemory Anything s m written (λ replies rest out requests few any all. (few, record { more = []; is = append-nil out ∙ all }, inl store))
+    stays_within limit start now next old accepted NoMemory Anything s m written (λ replies rest out requests few any all. (few, inl (all, inl store)))
 
 pub ends_too_long : (limit : ℕ) (start now next : Moment) (old : Reading) (accepted : Bool)
-    → SoFar limit start now old accepted → Overruns Begins old now.left next.left
+    → SoFar limit start now old accepted → Overruns (Begins old.hash) old now.left next.left
     → next.written ≡ now.written → next.store ≡ now.store → Served limit start next TooLong
 ends_too_long limit start now next old accepted s m written store =
     record {
@@ -186,14 +194,14 @@ ends_too_long limit start now next old accepted s m written store =
       out = texts s.replies;
       store = now.store;
       course = course_taken start now next s.requests s.replies old.held (m.taken ++ m.last ∷ []) (texts s.replies) now.store s.course m.takes written;
-      ends = (omega (arith, count_taken s.requests old.held (m.taken ++ m.last ∷ []), length-append m.taken (m.last ∷ []), s.room, m.room), record { within = old.held ++ m.taken; last = m.last; is = sym (append_assoc old.held m.taken (m.last ∷ [])); begins = m.part }, refl, store);
+      ends = (omega (arith, count_taken s.requests old.held (m.taken ++ m.last ∷ []), length-append m.taken (m.last ∷ []), s.room, m.room), record { within = old.held ++ m.taken; last = m.last; is = sym (append_assoc old.held m.taken (m.last ∷ [])); begins = subst (λ (h : HashKind). Begins h (old.held ++ m.taken)) s.kind m.part }, refl, store);
     }
 
 -- a whole request was read, and got no reply
 read_one : (limit : ℕ) (start now next : Moment) (old new : Reading) (accepted : Bool) (block : Request) (error : ExecuteError) (status : Status)
-    → SoFar limit start now old accepted → IsRequest block → Moves old new now.left next.left (spelling block) → Fails now.store block next.store error
+    → SoFar limit start now old accepted → IsRequest old.hash block → Moves old new now.left next.left (spelling block) → Stops now.store block next.store error
     → next.written ≡ now.written
-    → ((replies : List Reply) (rest out : List ℕ) (requests : List Request) → taken_count requests rest ≤ limit → GotNoReply now.store rest error next.store → out ≡ texts replies → Ends limit start next requests replies rest out now.store status)
+    → ((replies : List Reply) (rest out : List ℕ) (requests : List Request) → taken_count requests rest ≤ limit → GotNoReply start.store.hash now.store rest error next.store → out ≡ texts replies → Ends limit start next requests replies rest out now.store status)
     → Served limit start next status
 read_one limit start now next old new accepted block error status s fits m fails written ends =
     record {
@@ -203,27 +211,27 @@ read_one limit start now next old new accepted block error status s fits m fails
       out = texts s.replies;
       store = now.store;
       course = course_taken start now next s.requests s.replies old.held m.taken (texts s.replies) now.store s.course m.takes written;
-      ends = ends s.replies (old.held ++ m.taken) (texts s.replies) s.requests (omega (arith, count_taken s.requests old.held m.taken, s.room, m.room)) (record { request = block; more = new.held; fits = fits; is = m.split; fails = fails }) refl;
+      ends = ends s.replies (old.held ++ m.taken) (texts s.replies) s.requests (omega (arith, count_taken s.requests old.held m.taken, s.room, m.room)) (record { request = block; more = new.held; fits = fits_store limit start now old accepted block s fits; is = m.split; fails = fails }) refl;
     }
 
 pub ends_store : (limit : ℕ) (start now next : Moment) (old new : Reading) (accepted : Bool) (block : Request) (fault : What)
-    → SoFar limit start now old accepted → IsRequest block → Moves old new now.left next.left (spelling block)
-    → Fails now.store block next.store (no_reply.Store fault)
+    → SoFar limit start now old accepted → IsRequest old.hash block → Moves old new now.left next.left (spelling block)
+    → Stops now.store block next.store (no_reply.Store fault)
     → next.written ≡ now.written → Served limit start next StoreFault
 ends_store limit start now next old new accepted block fault s fits m fails written =
     read_one limit start now next old new accepted block (no_reply.Store fault) StoreFault s fits m fails written (λ replies rest out requests few none all. (few, all, (fault, none)))
 
 pub ends_store_memory : (limit : ℕ) (start now next : Moment) (old new : Reading) (accepted : Bool) (block : Request)
-    → SoFar limit start now old accepted → IsRequest block → Moves old new now.left next.left (spelling block)
-    → Fails now.store block next.store no_reply.NoMemory
+    → SoFar limit start now old accepted → IsRequest old.hash block → Moves old new now.left next.left (spelling block)
+    → Stops now.store block next.store no_reply.NoMemory
     → next.written ≡ now.written → Served limit start next NoMemory
 ends_store_memory limit start now next old new accepted block s fits m fails written =
-    read_one limit start now next old new accepted block no_reply.NoMemory NoMemory s fits m fails written (λ replies rest out requests few none all. (few, record { more = []; is = append-nil out ∙ all }, inr none))
+    read_one limit start now next old new accepted block no_reply.NoMemory NoMemory s fits m fails written (λ replies rest out requests few none all. (few, inl (all, inr none)))
 
 -- the request was run, and a front of its reply was written
 wrote_front : (limit : ℕ) (start now next : Moment) (old new : Reading) (accepted : Bool) (block : Request) (reply : Reply) (status : Status)
-    → SoFar limit start now old accepted → IsRequest block → Moves old new now.left next.left (spelling block)
-    → Step now.store block reply next.store → (w : WritesFront now.written next.written (reply_text reply))
+    → SoFar limit start now old accepted → IsRequest old.hash block → Moves old new now.left next.left (spelling block)
+    → Serves now.store block reply next.store → (w : WritesFront now.written next.written (reply_text reply))
     → ((requests : List Request) (before : List Reply) → taken_count requests new.held ≤ limit → Ends limit start next requests (before ++ reply ∷ []) new.held (texts before ++ w.part) next.store status)
     → Served limit start next status
 wrote_front limit start now next old new accepted block reply status s fits m step w ends =
@@ -237,7 +245,7 @@ wrote_front limit start now next old new accepted block reply status s fits m st
       store = next.store;
       course = record {
         takes = subst (Takes start.left next.left) (sym whole) (takes_then start.left now.left next.left (flat_map spelling s.requests ++ old.held) m.taken s.course.takes m.takes);
-        each = each_more s.requests block s.course.each fits;
+        each = each_more start.store.hash s.requests block s.course.each (fits_store limit start now old accepted block s fits);
         run = run_more start.store now.store next.store s.requests s.replies block reply s.course.run step;
         writes = writes_then start.written now.written next.written (texts s.replies) w.part s.course.writes w.writes;
       };
@@ -245,18 +253,18 @@ wrote_front limit start now next old new accepted block reply status s fits m st
     }
 
 pub ends_write_fault : (limit : ℕ) (start now next : Moment) (old new : Reading) (accepted : Bool) (block : Request) (reply : Reply)
-    → SoFar limit start now old accepted → IsRequest block → Moves old new now.left next.left (spelling block)
-    → Step now.store block reply next.store → WritesFront now.written next.written (reply_text reply)
+    → SoFar limit start now old accepted → IsRequest old.hash block → Moves old new now.left next.left (spelling block)
+    → Serves now.store block reply next.store → WritesFront now.written next.written (reply_text reply)
     → Rose now.sink_faults next.sink_faults → Served limit start next WriteFault
 ends_write_fault limit start now next old new accepted block reply s fits m step w rose =
     wrote_front limit start now next old new accepted block reply WriteFault s fits m step w (λ requests before few. (few, rose_before start.sink_faults now.sink_faults next.sink_faults s.sink_later rose, record { before = before; last = reply; part = w.part; more = w.more; all = refl; written = refl; text = w.is }, refl))
 
 pub ends_sink_memory : (limit : ℕ) (start now next : Moment) (old new : Reading) (accepted : Bool) (block : Request) (reply : Reply)
-    → SoFar limit start now old accepted → IsRequest block → Moves old new now.left next.left (spelling block)
-    → Step now.store block reply next.store → WritesFront now.written next.written (reply_text reply)
+    → SoFar limit start now old accepted → IsRequest old.hash block → Moves old new now.left next.left (spelling block)
+    → Serves now.store block reply next.store → WritesFront now.written next.written (reply_text reply)
     → Served limit start next NoMemory
 ends_sink_memory limit start now next old new accepted block reply s fits m step w =
-    wrote_front limit start now next old new accepted block reply NoMemory s fits m step w (λ requests before few. (few, record { more = w.more; is = append_assoc (texts before) w.part w.more ∙ ap (λ l. texts before ++ l) w.is ∙ sym (texts_more before reply) }, inl refl))
+    wrote_front limit start now next old new accepted block reply NoMemory s fits m step w (λ requests before few. (few, inr (record { before = before; last = reply; part = w.part; more = w.more; all = refl; written = refl; text = w.is }, refl)))
 
 -- no memory for a reader
 pub ends_at_once : (limit : ℕ) (m : Moment) → Served limit m m NoMemory
@@ -267,13 +275,13 @@ ends_at_once limit m = record {
   out = [];
   store = m.store;
   course = record { takes = takes_none m.left; each = tt; run = refl; writes = writes_none m.written };
-  ends = (omega arith, record { more = []; is = refl }, inl refl);
+  ends = (omega arith, inl (refl, inl refl));
 }
 
 -- the request was run, and no memory was left for its reply
 pub ends_print_memory : (limit : ℕ) (start now next : Moment) (old new : Reading) (accepted : Bool) (block : Request) (reply : Reply)
-    → SoFar limit start now old accepted → IsRequest block → Moves old new now.left next.left (spelling block)
-    → Step now.store block reply next.store → next.written ≡ now.written → Served limit start next NoMemory
+    → SoFar limit start now old accepted → IsRequest old.hash block → Moves old new now.left next.left (spelling block)
+    → Serves now.store block reply next.store → next.written ≡ now.written → Served limit start next NoMemory
 ends_print_memory limit start now next old new accepted block reply s fits m step written =
     ends_sink_memory limit start now next old new accepted block reply s fits m step (record { part = []; more = reply_text reply; is = refl; writes = subst (λ w. Writes now.written w []) (sym written) (writes_none now.written) })
 

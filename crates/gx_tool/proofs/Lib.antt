@@ -1,3 +1,5 @@
 pub mod CourseLemmas
+pub mod EndLemmas
 pub mod MachineLemmas
+pub mod ServingLemmas
 pub mod OutsideLemmas

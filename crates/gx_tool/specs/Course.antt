@@ -2,6 +2,7 @@
 use Rattle.std.specs.declared.alloc.Global.{Global}
 use Rattle.std.specs.Prelude.{String, string_bytes, codes, ◌≡◌, ℕ, ◌+◌, ◌≤◌, List, [], ◌∷◌, ◌++◌, length, Option, ◌⊎◌, true, false}
 use Rattle.std.specs.List.{flat_map, AllByRecursion}
+use Rattle.gx_hash.specs.declared.kind.HashKind.{HashKind}
 use Rattle.gx_store.specs.State.{StoreState}
 use Rattle.gx_store.specs.Faults.{Rose}
 use Rattle.gx_store.specs.Outside.{Takes, IsEnd, Writes}
@@ -14,7 +15,9 @@ use Rattle.gx_tool.specs.declared.execute.ExecuteError.{ExecuteError}
 use Rattle.gx_tool.specs.declared.execute.ExecuteError.TheVariants as no_reply
 use Rattle.gx_tool.specs.declared.status.Status.{Status}
 use Rattle.gx_tool.specs.declared.status.Status.TheVariants.{Done, Refusals, Malformed, ReadFault, WriteFault, NoMemory, BadWords, StoreFault, TooLong}
-use Rattle.gx_tool.specs.Machine.{Run, Fails}
+use Rattle.gix.specs.Machine.{WhereTold}
+use Rattle.gx_tool.specs.Serving.{ServesAll, Stops}
+use Rattle.gx_tool.specs.Machine.{Run}
 use Rattle.gx_tool.specs.Reply.{reply_text, texts, all_accepted}
 
 -- the number of a status
@@ -40,8 +43,8 @@ pub record Moment : Type 0 where
 -- These requests were read whole and run, with these replies; behind them these bytes were taken; these bytes were written; and this was the store after the last reply.
 pub record Course (start now : Moment) (requests : List Request) (replies : List Reply) (rest : List ℕ) (out : List ℕ) (store : StoreState) : Type 0 where
   pub takes : Takes start.left now.left (flat_map spelling requests ++ rest)
-  pub each : AllByRecursion IsRequest requests
-  pub run : Run start.store requests replies store
+  pub each : AllByRecursion (IsRequest start.store.hash) requests
+  pub run : ServesAll start.store requests replies store
   pub writes : Writes start.written now.written out
 
 -- all replies but the last were written, and a front of that
@@ -54,41 +57,37 @@ pub record IsCut (replies : List Reply) (out : List ℕ) : Type 0 where
   pub written : out ≡ texts before ++ part
   pub text : part ++ more ≡ reply_text last
 
-pub record IsFront (front all : List ℕ) : Type 0 where
-  pub more : List ℕ
-  pub is : front ++ more ≡ all
-
--- a whole request stands at the front of the rest, and got no reply
-pub record GotNoReply (old : StoreState) (rest : List ℕ) (error : ExecuteError) (new : StoreState) : Type 0 where
+-- a whole request of the store's kind stands at the front of the rest, and got no reply
+pub record GotNoReply (hash : HashKind) (old : StoreState) (rest : List ℕ) (error : ExecuteError) (new : StoreState) : Type 0 where
   pub request : Request
   pub more : List ℕ
-  pub fits : IsRequest request
+  pub fits : IsRequest hash request
   pub is : rest ≡ spelling request ++ more
-  pub fails : Fails old request new error
+  pub fails : Stops old request new error
 
--- all but the last byte begin a request
-pub record IsOver (rest : List ℕ) : Type 0 where
+-- all but the last byte begin a request, or are none
+pub record IsOneTooMany (hash : HashKind) (rest : List ℕ) : Type 0 where
   pub within : List ℕ
   pub last : ℕ
   pub is : rest ≡ within ++ last ∷ []
-  pub begins : Begins within
+  pub begins : Begins hash within
 
 -- how many bytes were taken
 abbrev pub taken_count : List Request → List ℕ → ℕ
 taken_count requests rest = length (flat_map spelling requests ++ rest)
 
 -- How a run ends, by its status: after these requests and replies, with this rest of the bytes taken, these bytes written, and the store as it was after the last reply.
--- 0 and 1: the script was read to its end, and all of its replies were written. 2: the bytes behind the requests are malformed. 3: a read failed within a request. 4: a write failed, within a reply. 5: memory ran out. 6: never, since nothing is run. 7: the store failed at a request. 8: a byte past the limit was taken within a request.
+-- 0 and 1: the script was read to its end, and all of its replies were written. 2: the bytes behind the requests are malformed. 3: a read failed; the bytes behind the requests begin one, or are none. 4: a write failed within a reply. 5: memory ran out. 6: never, since nothing is run. 7: the store failed at a request. 8: a byte past the limit was taken; those before it, behind the requests, begin one, or are none.
 abbrev pub Ends : ℕ → Moment → Moment → List Request → List Reply → List ℕ → List ℕ → StoreState → Status → Type 0
 Ends limit start now requests replies rest out store Done = (taken_count requests rest ≤ limit) × (rest ≡ []) × IsEnd now.left × (out ≡ texts replies) × (now.store ≡ store) × (all_accepted replies ≡ true)
 Ends limit start now requests replies rest out store Refusals = (taken_count requests rest ≤ limit) × (rest ≡ []) × IsEnd now.left × (out ≡ texts replies) × (now.store ≡ store) × (all_accepted replies ≡ false)
-Ends limit start now requests replies rest out store Malformed = (taken_count requests rest ≤ limit) × ((newlines : ℕ) × IsBad rest (IsEnd now.left) newlines) × (out ≡ texts replies) × (now.store ≡ store)
-Ends limit start now requests replies rest out store ReadFault = (taken_count requests rest ≤ limit) × Begins rest × Rose start.source_faults now.source_faults × (out ≡ texts replies) × (now.store ≡ store)
+Ends limit start now requests replies rest out store Malformed = (taken_count requests rest ≤ limit) × ((newlines : ℕ) × IsBad start.store.hash rest (IsEnd now.left) newlines) × (out ≡ texts replies) × (now.store ≡ store)
+Ends limit start now requests replies rest out store ReadFault = (taken_count requests rest ≤ limit) × Begins start.store.hash rest × Rose start.source_faults now.source_faults × (out ≡ texts replies) × (now.store ≡ store)
 Ends limit start now requests replies rest out store WriteFault = (taken_count requests rest ≤ limit) × Rose start.sink_faults now.sink_faults × IsCut replies out × (now.store ≡ store)
-Ends limit start now requests replies rest out store NoMemory = (taken_count requests rest ≤ limit) × IsFront out (texts replies) × ((now.store ≡ store) ⊎ GotNoReply store rest no_reply.NoMemory now.store)
+Ends limit start now requests replies rest out store NoMemory = (taken_count requests rest ≤ limit) × (((out ≡ texts replies) × ((now.store ≡ store) ⊎ GotNoReply start.store.hash store rest no_reply.NoMemory now.store)) ⊎ (IsCut replies out × (now.store ≡ store)))
 Ends limit start now requests replies rest out store BadWords = ⊥
-Ends limit start now requests replies rest out store StoreFault = (taken_count requests rest ≤ limit) × (out ≡ texts replies) × ((fault : What) × GotNoReply store rest (no_reply.Store fault) now.store)
-Ends limit start now requests replies rest out store TooLong = (taken_count requests rest ≡ limit + 1) × IsOver rest × (out ≡ texts replies) × (now.store ≡ store)
+Ends limit start now requests replies rest out store StoreFault = (taken_count requests rest ≤ limit) × (out ≡ texts replies) × ((fault : What) × GotNoReply start.store.hash store rest (no_reply.Store fault) now.store)
+Ends limit start now requests replies rest out store TooLong = (taken_count requests rest ≡ limit + 1) × IsOneTooMany start.store.hash rest × (out ≡ texts replies) × (now.store ≡ store)
 
 -- A whole run: some requests were read and run, and it ended so.
 pub record Served (limit : ℕ) (start now : Moment) (status : Status) : Type 0 where
@@ -120,8 +119,15 @@ IsApply (store ∷ []) = ⊥
 IsApply (store ∷ word ∷ []) = string_bytes word ≡ codes "apply"
 IsApply (store ∷ word ∷ more ∷ words) = ⊥
 
--- A run of a script up to the limit answers the number of its status.
+-- A run of a script up to the limit, which answers the number of its status: these requests were read whole and got these replies. Where the store tells its state, the replies are those of a run of the repository machine, from the state before to the one after the last reply; and the run ended by its status.
 pub record Answers (limit : ℕ) (start now : Moment) (number : ℕ) : Type 0 where
   pub status : Status
   pub is : number ≡ code status
-  pub served : Served limit start now status
+  pub requests : List Request
+  pub replies : List Reply
+  pub rest : List ℕ
+  pub out : List ℕ
+  pub store : StoreState
+  pub course : Course start now requests replies rest out store
+  pub machine : WhereTold (λ old new. Run old requests replies new) start.store store
+  pub ends : Ends limit start now requests replies rest out store status

@@ -1,3 +1,4 @@
 pub mod Course
 pub mod Machine
 pub mod Reply
+pub mod Serving

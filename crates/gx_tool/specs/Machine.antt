@@ -1,55 +1,20 @@
 -- The repository machine: which reply a request may get, and what the repository is then.
-use Rattle.std.specs.Prelude.{◌≡◌, List, [], ◌∷◌, Result, Ok, Err}
-use Rattle.gx_hash.specs.declared.oid.ObjectId.{ObjectId}
-use Rattle.gx_store.specs.State.{StoreState}
-use Rattle.gix.specs.CommitRequest.{CommitRequest}
-use Rattle.gix.specs.CommitEdits.{Commits, Leaves, CommitEditsCauses}
-use Rattle.gix.specs.declared.commit_edits.CommitEditsError.{CommitEditsError}
-use Rattle.gix.specs.declared.commit_edits.CommitEditsError.TheVariants as error
-use Rattle.gx_script.specs.declared.request.CommitRequest.{CommitRequest as Asked}
+use Rattle.std.specs.Prelude.{◌≡◌, List, [], ◌∷◌}
+use Rattle.gix.specs.Machine.{State, Accepts, Refuses}
 use Rattle.gx_script.specs.declared.request.Request.{Request}
 use Rattle.gx_script.specs.declared.request.Request.TheVariants.{Commit}
-use Rattle.gx_tool.specs.declared.reply.Refusal.{Refusal}
-use Rattle.gx_tool.specs.declared.reply.Refusal.TheVariants.{Unsupported, EmptyComponent, MustNotExist, Conflict}
 use Rattle.gx_tool.specs.declared.reply.Reply.{Reply}
 use Rattle.gx_tool.specs.declared.reply.Reply.TheVariants.{Committed, Refused}
-use Rattle.gx_tool.specs.declared.execute.ExecuteError.{ExecuteError}
-use Rattle.gx_tool.specs.declared.execute.ExecuteError.TheVariants as no_reply
+use Rattle.gx_tool.specs.Serving.{call_of, error_of}
 
--- the call that a `commit` asks for
-abbrev pub call_of : Asked → CommitRequest
-call_of asked = record { committer = asked.committer; author = asked.author; reference = asked.name; message = asked.message; parents = asked.parents; edits = asked.edits }
+-- From the old state the machine may give the reply and go on to the new state.
+abbrev pub Step : State → Request → Reply → State → Type 0
+Step old (Commit asked) (Committed id) new = Accepts (call_of asked) old id new
+Step old (Commit asked) (Refused refusal) new = Refuses (call_of asked) old (error_of refusal) new
 
--- the refusal that a reply tells of
-abbrev pub error_of : Refusal → CommitEditsError
-error_of Unsupported = error.Unsupported
-error_of (EmptyComponent path) = error.EmptyPathComponent path
-error_of (MustNotExist name actual) = error.MustNotExist name actual
-error_of (Conflict name other) = error.NameConflict name other
-
--- what the program makes of the call's answer: each refusal is a reply, but for a store's fault and want of memory
-abbrev pub outcome_of : Result ObjectId CommitEditsError → Result Reply ExecuteError
-outcome_of (Ok id) = Ok (Committed id)
-outcome_of (Err error.Unsupported) = Ok (Refused Unsupported)
-outcome_of (Err (error.EmptyPathComponent path)) = Ok (Refused (EmptyComponent path))
-outcome_of (Err (error.MustNotExist name actual)) = Ok (Refused (MustNotExist name actual))
-outcome_of (Err (error.NameConflict name other)) = Ok (Refused (Conflict name other))
-outcome_of (Err (error.Store fault)) = Err (no_reply.Store fault)
-outcome_of (Err error.NoMemory) = Err no_reply.NoMemory
-
--- From the old state the machine may give the reply and go on to the new state: a commit that is accepted is made, and nothing else; one that is refused has a cause, and changes nothing.
-abbrev pub Step : StoreState → Request → Reply → StoreState → Type 0
-Step old (Commit asked) (Committed id) new = Commits (call_of asked) old id new
-Step old (Commit asked) (Refused refusal) new = CommitEditsCauses (call_of asked) old old (error_of refusal) × (new ≡ old)
-
--- A request may get no reply for a fault of the store, which has a cause, or for want of memory. Then some of its objects may be stored, and after a fault of a write its reference may be moved.
-abbrev pub Fails : StoreState → Request → StoreState → ExecuteError → Type 0
-Fails old (Commit asked) new (no_reply.Store fault) = CommitEditsCauses (call_of asked) old new (error.Store fault) × Leaves (call_of asked) old new (error.Store fault)
-Fails old (Commit asked) new no_reply.NoMemory = Leaves (call_of asked) old new error.NoMemory
-
--- The machine may give these replies to these requests, one step after another.
-abbrev pub Run : StoreState → List Request → List Reply → StoreState → Type 0
-Run old [] [] new = new ≡ old
-Run old (request ∷ requests) (reply ∷ replies) new = (mid : StoreState) × Step old request reply mid × Run mid requests replies new
-Run old [] (reply ∷ replies) new = ⊥
-Run old (request ∷ requests) [] new = ⊥
+-- A run of the machine: the states from the start to the end are joined by steps, and each request gets one reply.
+abbrev pub Run : State → List Request → List Reply → State → Type 0
+Run start [] [] end = end ≡ start
+Run start (request ∷ requests) (reply ∷ replies) end = (mid : State) × Step start request reply mid × Run mid requests replies end
+Run start [] (reply ∷ replies) end = ⊥
+Run start (request ∷ requests) [] end = ⊥

@@ -1,8 +1,10 @@
 //! How a request is run.
 
 ghost use Rattle.std.specs.Prelude.{◌≡◌, IfOk, IfErr};
+ghost use Rattle.gix.specs.Machine.{WhereTold};
 ghost use Rattle.gix.specs.Repository.{store_of, settings_of};
-ghost use Rattle.gx_tool.specs.Machine.{Step, Fails, outcome_of};
+ghost use Rattle.gx_tool.specs.Machine.{Step};
+ghost use Rattle.gx_tool.specs.Serving.{Serves, Stops, outcome_of};
 
 use crate::reply::{Refusal, Reply};
 use gix::{CommitEditsError, Repository};
@@ -49,8 +51,9 @@ fn commit<S: Store>(
     repo: &mut Repository<S>,
     asked: &CommitRequest,
 ) -> Result<Reply, ExecuteError>
-    ensures step { IfOk result (λ reply. Step (S.state (store_of repo.old)) (Request.Commit asked.now) reply (S.state (store_of repo.new))) }
-    ensures failed { IfErr result (Fails (S.state (store_of repo.old)) (Request.Commit asked.now) (S.state (store_of repo.new))) }
+    ensures step { IfOk result (λ reply. Serves (S.state (store_of repo.old)) (Request.Commit asked.now) reply (S.state (store_of repo.new))) }
+    ensures machine { IfOk result (λ reply. WhereTold (λ old new. Step old (Request.Commit asked.now) reply new) (S.state (store_of repo.old)) (S.state (store_of repo.new))) }
+    ensures failed { IfErr result (Stops (S.state (store_of repo.old)) (Request.Commit asked.now) (S.state (store_of repo.new))) }
     ensures settings { settings_of repo.new ≡ settings_of repo.old }
 {
     reply_to(repo.commit_edits(
@@ -71,8 +74,9 @@ pub fn execute<S: Store>(
     _now: Time,
     request: &Request,
 ) -> Result<Reply, ExecuteError>
-    ensures step { IfOk result (λ reply. Step (S.state (store_of repo.old)) request.now reply (S.state (store_of repo.new))) }
-    ensures failed { IfErr result (Fails (S.state (store_of repo.old)) request.now (S.state (store_of repo.new))) }
+    ensures step { IfOk result (λ reply. Serves (S.state (store_of repo.old)) request.now reply (S.state (store_of repo.new))) }
+    ensures machine { IfOk result (λ reply. WhereTold (λ old new. Step old request.now reply new) (S.state (store_of repo.old)) (S.state (store_of repo.new))) }
+    ensures failed { IfErr result (Stops (S.state (store_of repo.old)) request.now (S.state (store_of repo.new))) }
     ensures settings { settings_of repo.new ≡ settings_of repo.old }
 {
     match request {

@@ -2,6 +2,7 @@
 #![tactic(auto)]
 
 mod execute;
+mod laws;
 mod reply;
 mod run;
 mod status;
@@ -28,8 +29,8 @@ and writes a reply for each to standard output.
   --help      prints this text
   --version   prints the version
 
-status  0  the script was read to its end, and every reply is `ok`
-        1  the script was read to its end, and some reply is `no`
+status  0  each request of the script got an `ok`
+        1  all requests of the script were replied to, one or more with `no`
         2  the script is malformed behind the requests that were replied to
         3  reading the script failed
         4  writing the replies failed

@@ -4,9 +4,9 @@ ghost use Rattle.gx_tool.specs.Course.{code};
 /// How a run ended.
 #[derive(Clone, Copy, Debug, PartialEq, Eq)]
 pub enum Status {
-    /// The script was read to its end, and every reply is `ok`.
+    /// Each request of the script got an `ok`.
     Done,
-    /// The script was read to its end, and some reply is `no`.
+    /// All requests of the script were replied to, one or more with `no`.
     Refusals,
     Malformed,
     ReadFault,

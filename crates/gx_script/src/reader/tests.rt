@@ -5,6 +5,8 @@ use gx_hash::Bytes;
 use gx_store::{Calls, MemorySource};
 use std::test::Fail;
 
+mod hostile;
+
 /// A commit with a file, as the language spells it.
 const ONE: &[u8] =
     b"commit refs/heads/main\nauthor 1700000000 3600 A U Thor\ta@example.com\ncommitter -1 -3600 C\t\nmessage 3\nc1\n\nput file 11 hello\nhello world\nend\n";
@@ -117,27 +119,6 @@ fn whole_scripts_are_read_to_their_end(rt: HostRuntime) -> Result<(), Fail> {
             )?,
             Err(ScriptError::TooLong)
         );
-    }
-    Ok(())
-}
-
-/// The script that ends after so many bytes is malformed at the line after its newlines.
-#[test]
-fn a_cut_script_is_malformed_at_its_end(rt: HostRuntime) -> Result<(), Fail> {
-    let mut newlines = 0u64;
-    for at in 0..ONE.len() {
-        if at > 0 {
-            assert_eq!(rt;
-                count(rt.alloc(), &ONE[..at], 5, 1000)?,
-                Err(ScriptError::Malformed {
-                    line: newlines.saturating_add(1)
-                }),
-                "at {at}"
-            );
-        }
-        if ONE[at] == b'\n' {
-            newlines = newlines.saturating_add(1);
-        }
     }
     Ok(())
 }

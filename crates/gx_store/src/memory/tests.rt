@@ -3,6 +3,7 @@ ghost use Rattle.gx_store.specs.Kinds.{IsLineOfKind};
 
 use super::*;
 use crate::{LogAct, LogLine, TargetChange, write_object};
+use gx_hash::object_id;
 use gx_object::{Signature, Time};
 use std::test::Fail;
 
@@ -105,8 +106,13 @@ fn conflict<S: Store>(alloc: Global, store: &S, name: &[u8]) -> Result<Bytes, St
     }
 }
 
-fn is_fault<T: Drop>(outcome: Result<T, StoreError>) -> bool {
-    matches!(outcome, Err(StoreError::Fault { .. }))
+/// Whether a call was a fault. Want of memory is passed on.
+fn is_fault<T: Drop>(outcome: Result<T, StoreError>) -> Result<bool, NoMemory> {
+    match outcome {
+        Ok(_) => Ok(false),
+        Err(StoreError::Fault { .. }) => Ok(true),
+        Err(StoreError::NoMemory) => Err(NoMemory),
+    }
 }
 
 #[test]
@@ -141,7 +147,7 @@ fn raw_bytes_stand_over_what_is_there(rt: HostRuntime) -> Result<(), Fail> {
     let alloc = rt.alloc();
     let mut store = Memory::new(alloc, HashKind::Sha1)?;
     let id = write_object(alloc, &mut store, Kind::Blob, b"")?;
-    store.put_raw(alloc, id, Kind::Tree, b"x")?;
+    store.put_raw(id, Kind::Tree, b"x")?;
     assert!(rt; bytes_at(alloc, &store, &id)?.as_slice() == b"x".as_slice());
     Ok(())
 }
@@ -214,11 +220,14 @@ fn finds_names_that_a_name_cannot_stand_beside(rt: HostRuntime) -> Result<(), Fa
 fn broken_objects_are_faults(rt: HostRuntime) -> Result<(), Fail> {
     let alloc = rt.alloc();
     let mut store = Memory::new(alloc, HashKind::Sha1)?;
-    let id = HashKind::Sha1.empty_blob();
-    store.break_object(id)?;
-    assert!(rt; is_fault(store.read(alloc, &id)));
-    assert!(rt; is_fault(store.header(alloc, &id)));
-    assert!(rt; is_fault(store.exists(alloc, &id)));
+    let whole = write_object(alloc, &mut store, Kind::Blob, b"whole")?;
+    let broken = write_object(alloc, &mut store, Kind::Blob, b"broken")?;
+    store.break_object(broken)?;
+    for (id, wanted) in [(whole, false), (broken, true)] {
+        assert!(rt; is_fault(store.read(alloc, &id))? == wanted);
+        assert!(rt; is_fault(store.header(alloc, &id))? == wanted);
+        assert!(rt; is_fault(store.exists(alloc, &id))? == wanted);
+    }
     Ok(())
 }
 
@@ -226,11 +235,15 @@ fn broken_objects_are_faults(rt: HostRuntime) -> Result<(), Fail> {
 fn broken_names_are_faults(rt: HostRuntime) -> Result<(), Fail> {
     let alloc = rt.alloc();
     let mut store = Memory::new(alloc, HashKind::Sha1)?;
-    let head = name_of(alloc, b"HEAD")?;
-    store.break_name(head.try_clone()?)?;
-    assert!(rt; is_fault(store.find(alloc, &head)));
-    assert!(rt; is_fault(store.log(alloc, &head)));
-    assert!(rt; is_fault(store.log_exists(alloc, &head)));
+    set(alloc, &mut store, b"refs/heads/a")?;
+    set(alloc, &mut store, b"refs/heads/b")?;
+    store.break_name(name_of(alloc, b"refs/heads/b")?)?;
+    for (name, wanted) in [("refs/heads/a", false), ("refs/heads/b", true)] {
+        let name = name_of(alloc, name.as_bytes())?;
+        assert!(rt; is_fault(store.find(alloc, &name))? == wanted);
+        assert!(rt; is_fault(store.log(alloc, &name))? == wanted);
+        assert!(rt; is_fault(store.log_exists(alloc, &name))? == wanted);
+    }
     Ok(())
 }
 
@@ -238,21 +251,56 @@ fn broken_names_are_faults(rt: HostRuntime) -> Result<(), Fail> {
 fn a_broken_listing_is_a_fault(rt: HostRuntime) -> Result<(), Fail> {
     let alloc = rt.alloc();
     let mut store = Memory::new(alloc, HashKind::Sha1)?;
+    let head = name_of(alloc, b"HEAD")?;
     store.break_listing();
-    assert!(rt; is_fault(store.list(alloc, b"")));
-    assert!(rt; is_fault(conflict(alloc, &store, b"HEAD")));
+    assert!(rt; is_fault(store.list(alloc, b""))?);
+    assert!(rt; is_fault(store.find_conflict(alloc, &head))?);
+    assert!(rt; !is_fault(store.find(alloc, &head))?);
     Ok(())
 }
 
 #[test]
-fn the_nth_change_fails_and_changes_nothing(rt: HostRuntime) -> Result<(), Fail> {
+fn one_write_fails_and_stores_nothing(rt: HostRuntime) -> Result<(), Fail> {
+    let alloc = rt.alloc();
+    for nth in 1..5 {
+        let mut store = Memory::new(alloc, HashKind::Sha1)?;
+        store.fail_write(nth)?;
+        for (call, bytes) in [(1, b"a"), (2, b"b"), (3, b"c"), (4, b"d")] {
+            let id = object_id(HashKind::Sha1, Kind::Blob.as_bytes(), bytes);
+            let fails = is_fault(write_object(alloc, &mut store, Kind::Blob, bytes))?;
+            assert!(rt; fails == (call == nth), "call {call} of {nth}");
+            assert!(rt; store.exists(alloc, &id)? != fails);
+        }
+    }
+    Ok(())
+}
+
+#[test]
+fn one_apply_fails_and_changes_nothing(rt: HostRuntime) -> Result<(), Fail> {
+    let alloc = rt.alloc();
+    for nth in 1..5 {
+        let mut store = Memory::new(alloc, HashKind::Sha1)?;
+        store.fail_write(nth)?;
+        for (call, name) in [(1, "refs/a"), (2, "refs/b"), (3, "refs/c"), (4, "refs/d")] {
+            let fails = is_fault(set(alloc, &mut store, name.as_bytes()))?;
+            assert!(rt; fails == (call == nth), "call {call} of {nth}");
+            let name = name_of(alloc, name.as_bytes())?;
+            assert!(rt; store.find(alloc, &name)?.is_none() == fails);
+            assert!(rt; store.log_exists(alloc, &name)? != fails);
+        }
+    }
+    Ok(())
+}
+
+#[test]
+fn writes_and_applies_are_counted_together(rt: HostRuntime) -> Result<(), Fail> {
     let alloc = rt.alloc();
     let mut store = Memory::new(alloc, HashKind::Sha1)?;
     store.fail_write(2)?;
     store.fail_write(3)?;
     write_object(alloc, &mut store, Kind::Blob, b"one")?;
-    assert!(rt; is_fault(write_object(alloc, &mut store, Kind::Blob, b"")));
-    assert!(rt; is_fault(set(alloc, &mut store, b"refs/heads/a")));
+    assert!(rt; is_fault(write_object(alloc, &mut store, Kind::Blob, b""))?);
+    assert!(rt; is_fault(set(alloc, &mut store, b"refs/heads/a"))?);
     assert!(rt; listed(alloc, &store, b"")?.as_slice() == b"HEAD ".as_slice());
     set(alloc, &mut store, b"refs/heads/a")?;
     assert!(rt; listed(alloc, &store, b"")?.as_slice() == b"HEAD refs/heads/a ".as_slice());

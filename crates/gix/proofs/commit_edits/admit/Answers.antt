@@ -1,8 +1,6 @@
-use Rattle.std.proofs.Common.{inl, sym, ◌∙◌, ◌≡◌, false, true, ap, subst, rules}
-use Rattle.gx_store.specs.Conflict.{Conflict}
+use Rattle.std.proofs.Common.{inl, sym, ◌∙◌, rules}
 use Rattle.gix.specs.CommitRequest.{CommitRequest}
-use Rattle.gix.specs.CommitEdits.{IsSupported, has_no_empty_name}
-use Rattle.gix.proofs.AdmitLemmas.{direct, present, absent, in_the_way}
+use Rattle.gix.proofs.AdmitLemmas.{supported, present, absent, in_the_way}
 use Rattle.gix.proofs.commit_edits.admit.Goals as goal
 
 pub returns-then-not-is_served_request-clause-err : goal.returns-then-not-is_served_request-clause-err
@@ -11,23 +9,22 @@ returns-then-not-is_served_request-clause-err g c = λ message. inl (sym (c.is_s
 pub returns-in-Some-clause-err : goal.returns-in-Some-clause-err
 returns-in-Some-clause-err g c = λ message.
     let r : CommitRequest = record { committer = c.args.committer.now; author = c.args.author.now; reference = c.args.reference.now; message = message; parents = c.args.parents.now; edits = c.args.edits.now } in
-    let supported : IsSupported r (g.S.Meanings.state c.args.store.now).references = record { served = sym (c.is_served_request.ensures message) ∙ search rules; direct = direct r _ _ _ c.in_ok-end.ensures.found c.is_symbolic.ensures (search rules) } in
-    let e = c.in-Some.ensures in
-    (supported, (e.0, e.1, c.in_ok-path.ensures ∙ e.2, e.3))
+    let is_supported = supported r _ _ _ _ (c.is_served_request.ensures message) (search rules) c.in_ok-end.ensures.found c.is_symbolic.ensures (search rules) in
+    (is_supported, rw c.in_ok-path.ensures c.in-Some.ensures)
 
 pub returns-in-Some-end-clause-err : goal.returns-in-Some-end-clause-err
 returns-in-Some-end-clause-err g c = λ message.
     let r : CommitRequest = record { committer = c.args.committer.now; author = c.args.author.now; reference = c.args.reference.now; message = message; parents = c.args.parents.now; edits = c.args.edits.now } in
-    let supported : IsSupported r (g.S.Meanings.state c.args.store.now).references = record { served = sym (c.is_served_request.ensures message) ∙ search rules; direct = direct r _ _ _ c.in_ok-end.ensures.found c.is_symbolic.ensures (search rules) } in
-    (supported, c.in_default.ensures, c.in_ok-name.ensures, rw c.in_ok-name.ensures (present c.args.reference.now _ c.in_ok-end.end c.in-Some-end.actual c.in_ok-end.ensures.found c.in-Some-end.is))
+    let is_supported = supported r _ _ _ _ (c.is_served_request.ensures message) (search rules) c.in_ok-end.ensures.found c.is_symbolic.ensures (search rules) in
+    (is_supported, c.in_default.ensures, c.in_ok-name.ensures, rw c.in_ok-name.ensures (present c.args.reference.now _ c.in_ok-end.end c.in-Some-end.actual c.in_ok-end.ensures.found c.in-Some-end.is))
 
 pub returns-in-Some-2-clause-err : goal.returns-in-Some-2-clause-err
 returns-in-Some-2-clause-err g c = λ message.
     let r : CommitRequest = record { committer = c.args.committer.now; author = c.args.author.now; reference = c.args.reference.now; message = message; parents = c.args.parents.now; edits = c.args.edits.now } in
-    let supported : IsSupported r (g.S.Meanings.state c.args.store.now).references = record { served = sym (c.is_served_request.ensures message) ∙ search rules; direct = direct r _ _ _ c.in_ok-end.ensures.found c.is_symbolic.ensures (search rules) } in
+    let is_supported = supported r _ _ _ _ (c.is_served_request.ensures message) (search rules) c.in_ok-end.ensures.found c.is_symbolic.ensures (search rules) in
     let conflict = rw c.in-Some-2.is at c.in_ok-other.ensures.conflict in
     let there = rw c.in-Some-2.is at c.in_ok-other.ensures.stored in (
-      supported,
+      is_supported,
       c.in_default.ensures,
       c.in_ok-name-2.ensures,
       rw c.in_ok-name-2.ensures conflict,
@@ -37,9 +34,9 @@ returns-in-Some-2-clause-err g c = λ message.
 pub returns-clause-ok : goal.returns-clause-ok
 returns-clause-ok g c = λ message.
     let r : CommitRequest = record { committer = c.args.committer.now; author = c.args.author.now; reference = c.args.reference.now; message = message; parents = c.args.parents.now; edits = c.args.edits.now } in
-    let supported : IsSupported r (g.S.Meanings.state c.args.store.now).references = record { served = sym (c.is_served_request.ensures message) ∙ search rules; direct = direct r _ _ _ c.in_ok-end.ensures.found c.is_symbolic.ensures (search rules) } in
+    let is_supported = supported r _ _ _ _ (c.is_served_request.ensures message) (search rules) c.in_ok-end.ensures.found c.is_symbolic.ensures (search rules) in
     record {
-      supported = supported;
+      supported = is_supported;
       paths = c.in_default.ensures;
       absent = absent c.args.reference.now _ c.in_ok-end.end c.in_ok-end.ensures.found c.in_default-end.is;
       free = rw c.in_default-2.is at c.in_ok-other.ensures.none;

@@ -1,4 +1,3 @@
-use Rattle.std.proofs.Common.{sym, ◌∙◌}
 use Rattle.gix.proofs.TopLevelLemmas.{files_more, blobs_more}
 use Rattle.gix.proofs.top_level.put_files.Goals as goal
 

@@ -1,4 +1,3 @@
-use Rattle.std.proofs.Common.{refl, arith}
 use Rattle.std.proofs.lemmas.Result.{err_from_is_err_and}
 use Rattle.gix.specs.CommitRequest.{CommitRequest}
 use Rattle.gix.proofs.WritingLemmas.{grows_by_tree, commit_ok, commit_err}

@@ -1,4 +1,4 @@
-use Rattle.std.proofs.Common.{arith, length, ◌≡◌}
+use Rattle.std.proofs.Common.{arith, length, ◌≡◌, ◌∙◌}
 use Rattle.std.proofs.lemmas.Result.{err_from_is_err_and}
 use Rattle.gx_script.proofs.CommitLemmas.{change_fails, commit_ends, put_given, file_fails, file_smaller, so_far_more, file_taken}
 use Rattle.gx_script.proofs.commit.commit.Goals as goal
@@ -33,6 +33,7 @@ edits-preserved g c =
     record {
       so_far = so_far_more _ _ _ _ _ _ _ _ _ _ _ _ _ _ put c.in_ok-bytes.ensures.block.0 c.in_ok-bytes.ensures.block.1 (omega (arith, put.fits)) c.in_ok-push.ensures.items;
       later = omega (arith, c.edits.invariant.later, c.in_ok-size.ensures.later, c.in_ok-bytes.ensures.later);
+      kind = c.in_ok-bytes.ensures.kind ∙ c.in_ok-size.ensures.kind ∙ c.edits.invariant.kind;
     }
 
 pub returns-in_err-push-clause-next : goal.returns-in_err-push-clause-next

@@ -1,4 +1,4 @@
-use Rattle.std.proofs.Common.{◌+◌, ◌≤◌, length}
+use Rattle.std.proofs.Common.{◌≡◌, ◌+◌, ◌≤◌, length}
 use Rattle.gx_script.proofs.CommitLemmas.{SoFar}
 use Rattle.gx_script.proofs.commit.commit.Given as goal
 
@@ -6,6 +6,7 @@ abbrev pub invariant-edits : goal.invariant-edits
 invariant-edits g l = record {
   so_far : SoFar l.fn.feed l.feed (g.I.Source.left l.fn.input) (g.I.Source.left l.input) l.head l.edits.items l.room;
   later : g.I.Source.faults l.fn.input ≤ g.I.Source.faults l.input;
+  kind : l.feed.hash ≡ l.fn.feed.hash;
 }
 
 abbrev pub decreases-edits : goal.decreases-edits

@@ -6,7 +6,7 @@ pub returns-in-Err-clause-served : goal.returns-in-Err-clause-served
 returns-in-Err-clause-served g c = ends_at_once _ _
 
 pub requests-init : goal.requests-init
-requests-init g c = record { so_far = rw c.in-Ok.ensures (so_far_first _ _); settings = refl }
+requests-init g c = record { so_far = rw c.in-Ok.ensures (rw c.object_hash.ensures (so_far_first _ _)); settings = refl }
 
 pub returns-in-Err-Malformed-clause-served : goal.returns-in-Err-Malformed-clause-served
 returns-in-Err-Malformed-clause-served g c =

@@ -1,4 +1,4 @@
-use Rattle.std.proofs.Common.{◌≤◌, []}
+use Rattle.std.proofs.Common.{◌≡◌, ◌≤◌, []}
 use Rattle.gx_script.specs.Reading.{Moves}
 use Rattle.gx_script.proofs.feed.Feed.find_block.Given as goal
 
@@ -6,6 +6,7 @@ abbrev pub invariant-fills : goal.invariant-fills
 invariant-fills g l = record {
   moved : Moves l.fn.self l.self (g.I.Source.left l.fn.input) (g.I.Source.left l.input) [];
   later : g.I.Source.faults l.fn.input ≤ g.I.Source.faults l.input;
+  kind : l.self.hash ≡ l.fn.self.hash;
 }
 
 abbrev pub decreases-fills : goal.decreases-fills

@@ -24,6 +24,7 @@ fills-preserved g c =
       short = omega arith;
       open_line = scanned_open _ _ _ _ _ c.held-scanned.ensures filled.0 none;
       later = omega (arith, c.in_ok-fill.ensures.later);
+      kind = c.in_ok-fill.ensures.kind ∙ c.fills.invariant.kind;
     }
 
 pub returns-then-not-branch-clause-found : goal.returns-then-not-branch-clause-found

@@ -1,4 +1,4 @@
-use Rattle.std.proofs.Common.{◌≤◌, [], length, take}
+use Rattle.std.proofs.Common.{◌≡◌, ◌≤◌, [], length, take}
 use Rattle.gx_script.specs.Script.{NoNewline, line_limit}
 use Rattle.gx_script.specs.Reading.{Moves}
 use Rattle.gx_script.proofs.feed.Feed.find_line.Given as goal
@@ -10,6 +10,7 @@ invariant-fills g l = record {
   short : l.scanned ≤ line_limit;
   open_line : NoNewline (take l.scanned l.self.held);
   later : g.I.Source.faults l.fn.input ≤ g.I.Source.faults l.input;
+  kind : l.self.hash ≡ l.fn.self.hash;
 }
 
 abbrev pub decreases-fills : goal.decreases-fills

@@ -1,5 +1,5 @@
-use Rattle.std.proofs.Common.{arith, ap, sym, ◌∙◌, ◌≡◌, ℕ, List, drop}
-use Rattle.std.proofs.lemmas.List.{length-drop, length-take, take_rest}
+use Rattle.std.proofs.Common.{arith, ap, sym, ◌∙◌, ℕ}
+use Rattle.std.proofs.lemmas.List.{length-drop, length-take}
 use Rattle.std.proofs.lemmas.Grind.{common_steps}
 use Rattle.gx_store.specs.MemoryEnds.{MemorySourceState}
 use Rattle.gx_store.proofs.OutsideLemmas.{read_part}

@@ -1,0 +1,22 @@
+//! What the end of a run says of its script, where the source tells what is left. The functions do nothing.
+
+ghost use Rattle.std.specs.Prelude.{◌≡◌, ◌≤◌, ◌⊎◌, ◌↔◌, ℕ, ◌+◌, List, [], ◌++◌, length, Some};
+ghost use Rattle.gx_script.specs.declared.request.Request.{Request};
+ghost use Rattle.gx_script.specs.Script.{IsScript};
+ghost use Rattle.gx_tool.specs.Course.{Moment, Answers};
+
+/// The number is 8 exactly where a byte past the limit was taken.
+pub fn eight_is_a_byte_past_the_limit()
+    ensures { (limit : ℕ) (start now : Moment) (number : ℕ) (taken left : List ℕ) → Answers limit start now number → start.left ≡ Some (taken ++ left) → now.left ≡ Some left → (number ≡ 8) ↔ (length taken ≡ limit + 1) }
+{}
+
+/// The number is 0 or 1 only where the source held a script, and was read to its end.
+pub fn zero_and_one_are_a_whole_script()
+    ensures { (limit : ℕ) (start now : Moment) (number : ℕ) (bytes : List ℕ) → Answers limit start now number → start.left ≡ Some bytes → (number ≡ 0) ⊎ (number ≡ 1)
+        → (now.left ≡ Some []) × ((requests : List Request) × IsScript start.store.hash bytes requests) }
+{}
+
+/// The number is not 2 where the source held a script.
+pub fn a_script_is_not_malformed()
+    ensures { (limit : ℕ) (start now : Moment) (number : ℕ) (bytes : List ℕ) (requests : List Request) → Answers limit start now number → start.left ≡ Some bytes → IsScript start.store.hash bytes requests → number ≡ 2 → ⊥ }
+{}
