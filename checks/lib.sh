@@ -2,6 +2,7 @@
 # What the checks share. A file of checks reads this file, calls `passes`, `fails`, `same` and `skips`, and ends with `report`.
 
 top=$(dirname -- "$(dirname -- "$(readlink -f -- "${BASH_SOURCE[0]}")")")
+. "$top/checks/build.sh"
 scratch=$(mktemp -d)
 trap 'rm -rf -- "$scratch"' EXIT
 
@@ -43,6 +44,11 @@ runs() {
         fails "$name ends with $found in place of $status"
     fi
     same "$name prints what it must" "$wanted" "$scratch/printed"
+}
+
+# Runs the program that asks the libraries.
+probe() {
+    build gx_probe names && "$top/crates/gx_probe/out/gx_probe" "$@"
 }
 
 # Ends a file of checks. With a place to count in (checks/run gives one), the counts go there.

@@ -3,6 +3,7 @@ pub mod CauseLemmas
 pub mod CommitLemmas
 pub mod Growth
 pub mod MachineLemmas
+pub mod PlainLemmas
 pub mod ServedLemmas
 pub mod SupportLemmas
 pub mod TopLevelLemmas

@@ -25,7 +25,7 @@ blobs_of-append : (xs ys : List PathEdit) → blobs_of (xs ++ ys) ≡ blobs_of x
 blobs_of-append [] ys = refl
 blobs_of-append (x ∷ xs) ys = ap (λ l. blobs_in x ++ l) (blobs_of-append xs ys) ∙ sym (append_assoc (blobs_in x) (blobs_of xs) (blobs_of ys))
 
-trees_below-flat : (hash : HashKind) (es : List (List ℕ × Leaf)) → trees_below hash (flat es) ≡ []
+pub trees_below-flat : (hash : HashKind) (es : List (List ℕ × Leaf)) → trees_below hash (flat es) ≡ []
 trees_below-flat hash [] = refl
 trees_below-flat hash (e ∷ es) = trees_below-flat hash es
 

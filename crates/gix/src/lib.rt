@@ -8,6 +8,8 @@
 mod commit_edits;
 pub mod laws;
 mod log;
+#[cfg(test)]
+mod plain;
 mod repository;
 mod settings;
 mod support;

@@ -1,4 +1,8 @@
 pub mod ComponentLemmas
 pub mod PathLemmas
+pub mod TextLemmas
+pub mod AboveLemmas
+pub mod EditedLemmas
+pub mod KeptLemmas
 pub mod DirectoryLemmas
 pub mod PlainLemmas

@@ -1,20 +1,7 @@
 -- Paths of a directory tree.
-use Rattle.std.specs.Prelude.{◌≢◌, ℕ, Bool, true, false, ◌&&◌, ◌==◌, if◌then◌else◌, List, [], ◌∷◌, Contains, bytes_eq}
+use Rattle.std.specs.Prelude.{◌≢◌, ℕ, Bool, true, false, ◌&&◌, List, [], ◌∷◌, Contains, bytes_eq}
 use Rattle.std.specs.Cmp.Lexicographic.{pointwise}
-
--- A path is the names that lead from the root down.
-abbrev pub Path : Type 0
-Path = List (List ℕ)
-
--- a byte more in front of the first name
-abbrev pub at_front : ℕ → Path → Path
-at_front b [] = (b ∷ []) ∷ []
-at_front b (name ∷ path) = (b ∷ name) ∷ path
-
--- A path is written with a slash between its names; so a text is parted at each slash. (git-fast-import(1), "filemodify")
-abbrev pub components : List ℕ → Path
-components [] = [] ∷ []
-components (b ∷ bytes) = if b == 47 then [] ∷ components bytes else at_front b (components bytes)
+pub use Rattle.gx_rules.specs.Path.{Path, at_front, components}
 
 -- A name in a tree is not empty and holds neither a slash nor a zero byte, which ends a name there. (git-fsck(1), "emptyName", "fullPathname"; Git, "Git Internals - Git Objects", "Tree Objects")
 pub record IsName (name : List ℕ) : Type 0 where

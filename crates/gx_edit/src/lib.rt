@@ -5,13 +5,17 @@
 //! what a commit of the edits names.
 #![tactic(auto)]
 
+mod error;
 pub mod laws;
 mod leaf;
 mod path;
 mod path_edit;
+mod path_map;
 #[cfg(test)]
 mod plain;
 
+pub use error::EditError;
 pub use leaf::Leaf;
 pub use path::split_first_name;
 pub use path_edit::{PathEdit, PathEdits};
+pub use path_map::{PathEntries, PathEntry, PathMap};

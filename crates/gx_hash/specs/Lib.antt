@@ -1,2 +1,3 @@
 pub mod HashKind
 pub mod ObjectId
+pub mod Prefix

@@ -11,9 +11,11 @@ mod kind;
 pub mod laws;
 mod no_memory;
 mod oid;
+mod prefix;
 
 pub use bytes::Bytes;
 pub use hasher::object_id;
 pub use kind::HashKind;
 pub use no_memory::NoMemory;
 pub use oid::{HexError, ObjectId};
+pub use prefix::{Prefix, PrefixError};

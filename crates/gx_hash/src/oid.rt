@@ -1,6 +1,8 @@
-ghost use Rattle.std.specs.Prelude.{◌≡◌, Some, ◌++◌, ◌↔◌, ◌*◌, length, IfOk, OnOk, OnErr, IsTrue};
+ghost use Rattle.std.specs.Prelude.{◌≡◌, ◌≤◌, Some, ◌++◌, ◌↔◌, ◌*◌, length, take, IfOk, OnOk, OnErr, IsTrue};
 ghost use Rattle.gx_hash.specs.HashKind.{len_in_bytes, kind_of, IsOfKind};
 ghost use Rattle.gx_hash.specs.ObjectId.{bytes_of, hex_of, null_id, empty_tree_id, empty_blob_id, id_from_bytes, bytes_from_hex, id_from_hex};
+ghost use Rattle.gx_hash.specs.Prefix.{len_in_hex, padded};
+ghost use Rattle.hex.specs.Hex.{encode_lower};
 
 use crate::{Bytes, HashKind, NoMemory, object_id};
 use hex::{FromHex, FromHexError};
@@ -113,8 +115,20 @@ impl ObjectId {
         }
     }
 
+    /// The id with these first hex digits of this one, and zeros behind them.
+    pub(crate) fn keeping_digits(&self, hex_len: usize) -> ObjectId
+        requires { hex_len ≤ len_in_hex (kind_of self.now) }
+        ensures digits { hex_of result ≡ padded (length (hex_of self.now)) (take hex_len (hex_of self.now)) }
+        ensures kind { kind_of result ≡ kind_of self.now }
+    {
+        match self {
+            ObjectId::Sha1(bytes) => ObjectId::Sha1(keep_digits(bytes, hex_len)),
+            ObjectId::Sha256(bytes) => ObjectId::Sha256(keep_digits(bytes, hex_len)),
+        }
+    }
+
     /// The id's digits, in lower case, as they stand in the buffer.
-    fn write_hex<'a>(&self, buffer: &'a mut [u8; 64]) -> &'a [u8]
+    pub(crate) fn write_hex<'a>(&self, buffer: &'a mut [u8; 64]) -> &'a [u8]
         ensures { result.now ≡ hex_of self.now }
     {
         let digits = &mut buffer[..self.kind().len_in_hex()];
@@ -156,6 +170,20 @@ fn bytes_from_hex<const N: usize>(digits: &[u8]) -> Result<[u8; N], HexError>
             found: digits.len(),
         }),
     }
+}
+
+/// The bytes whose first hex digits are as these have them, and zeros behind them.
+fn keep_digits<const N: usize>(bytes: &[u8; N], hex_len: usize) -> [u8; N]
+    requires { hex_len ≤ 2 * N }
+    ensures { encode_lower result ≡ padded (length (encode_lower bytes.now)) (take hex_len (encode_lower bytes.now)) }
+{
+    let whole = hex_len / 2;
+    let mut kept = [0; N];
+    kept[..whole].copy_from_slice(&bytes[..whole]);
+    if hex_len % 2 == 1 {
+        kept[whole] = bytes[whole] / 16 * 16;
+    }
+    kept
 }
 
 impl fmt::Display for ObjectId {

@@ -4,7 +4,7 @@ use Rattle.std.specs.List.{flat_map, list_all}
 use Rattle.gx_hash.specs.declared.oid.ObjectId.{ObjectId}
 use Rattle.gx_hash.specs.ObjectId.{hex_of}
 use Rattle.gx_object.specs.declared.signature.Signature.{Signature}
-use Rattle.gx_object.specs.declared.commit.ExtraHeader.{ExtraHeader}
+use Rattle.gx_object.specs.declared.commit.OwnedHeader.{OwnedHeader}
 use Rattle.gx_object.specs.declared.commit.Commit.{Commit}
 use Rattle.gx_object.specs.declared.encode.Field.{Field}
 use Rattle.gx_object.specs.declared.encode.Field.TheVariants.{Encoding, HeaderName}
@@ -38,7 +38,7 @@ abbrev pub folded_byte : ℕ → List ℕ
 folded_byte b = if b == 10 then 10 ∷ 32 ∷ [] else b ∷ []
 
 -- A header is its name, a space and its value, whose lines after the first begin with a space. (Git, gitformat-signature, "Commit signatures")
-abbrev pub header_line : ExtraHeader → List ℕ
+abbrev pub header_line : OwnedHeader → List ℕ
 header_line h = h.name ++ 32 ∷ flat_map folded_byte h.value ++ 10 ∷ []
 
 -- A commit is its header lines, an empty line and its message.
@@ -46,7 +46,7 @@ unfoldable pub commit_bytes : Commit → List ℕ
 commit_bytes c = head_bytes c.tree c.parents c.author c.committer ++ (encoding_line c.encoding ++ (flat_map header_line c.extra_headers ++ 10 ∷ c.message))
 
 -- A header's name ends at the first space, and its line at a newline.
-abbrev pub is_writable_header : ExtraHeader → Bool
+abbrev pub is_writable_header : OwnedHeader → Bool
 is_writable_header h = not (length h.name == 0) && list_all (λ b. not (b == 32) && not (b == 10)) h.name
 
 -- an encoding is named in one line, which is not empty

@@ -24,11 +24,11 @@ offset_bytes offset = sign_of offset ∷ two_digits (unsigned_abs offset / 3600)
 abbrev pub time_bytes : Time → List ℕ
 time_bytes time = signed_decimal time.seconds ++ 32 ∷ offset_bytes time.offset
 
--- An identity is written `name <email> time`. (Git, git-commit-tree, "Commit Information")
+-- An identity is written `name <email> time`. (Git, git-fast-import, "committer")
 unfoldable pub identity_bytes : Signature → List ℕ
 identity_bytes who = who.name ++ codes " <" ++ who.email ++ codes "> " ++ time_bytes who.time
 
--- `<`, `>` and newlines part the fields of an identity, so neither a name nor an email has them. (Git, git-commit-tree, "Commit Information")
+-- `<`, `>` and newlines part the fields of an identity, so neither a name nor an email has them. (Git, git-commit, "Commit Information")
 abbrev pub is_writable_text : List ℕ → Bool
 is_writable_text text = list_all (λ b. not (b == 60) && not (b == 62) && not (b == 10)) text
 

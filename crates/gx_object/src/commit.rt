@@ -1,14 +1,26 @@
+mod decode;
+mod fields;
+mod iter;
+mod lines;
+mod owned;
+mod parent_ids;
 #[cfg(test)]
 mod tests;
 mod write;
 
 use crate::{Headers, Ids, Signature};
+pub(crate) use decode::bad_line;
+pub use decode::{CommitRef, ExtraHeader, ExtraHeaders};
 use gx_hash::{Bytes, ObjectId};
+pub use iter::{CommitRefIter, CommitToken};
+pub(crate) use lines::{after, id_line, id_of, identity_line, split_line};
+pub use parent_ids::ParentIds;
 pub use write::push_commit;
+pub(crate) use write::{has_no_newline, push_id_line, push_identity_line};
 
 /// A header of a commit behind the ones that each commit has.
 #[derive(Debug, Drop)]
-pub struct ExtraHeader {
+pub struct OwnedHeader {
     pub name: Bytes,
     pub value: Bytes,
 }

@@ -5,6 +5,7 @@
 
 mod blob;
 mod commit;
+mod decode;
 mod encode;
 mod kind;
 pub mod laws;
@@ -13,15 +14,27 @@ mod message;
 #[cfg(test)]
 mod samples;
 mod signature;
+mod split;
+mod tag;
 mod tree;
 mod write_to;
 
 pub use blob::Blob;
-pub use commit::{Commit, ExtraHeader, push_commit};
+pub use commit::{
+    Commit, CommitRef, CommitRefIter, CommitToken, ExtraHeader, ExtraHeaders, OwnedHeader,
+    ParentIds, push_commit,
+};
+pub use decode::DecodeError;
 pub use encode::{EncodeError, Field};
 pub use kind::Kind;
-pub use lists::{Entries, Headers, Ids};
+pub use lists::{Entries, EntryRefs, Headers, Ids};
 pub use message::{MessageRef, summary};
-pub use signature::{Signature, Time, is_writable_identity, push_identity, unwritable_identity};
-pub use tree::{Entry, EntryKind, EntryMode, Tree, push_entry, push_tree};
+pub use signature::{
+    BadTime, Signature, SignatureError, SignatureRef, Time, is_writable_identity, push_identity,
+    unwritable_identity,
+};
+pub use tag::{Tag, TagRef};
+pub use tree::{
+    Entry, EntryKind, EntryMode, EntryRef, Tree, TreeRef, TreeRefIter, push_entry, push_tree,
+};
 pub use write_to::WriteTo;

@@ -1,6 +1,6 @@
 ghost use Rattle.std.specs.Prelude.{◌≡◌, [], IfOk};
 
-use crate::{Entry, ExtraHeader};
+use crate::{Entry, EntryRef, OwnedHeader};
 use gx_hash::{NoMemory, ObjectId};
 use std::alloc::Global;
 use std::marker::Model;
@@ -99,17 +99,56 @@ impl Entries {
     }
 }
 
+/// The entries of a tree whose names are slices of its bytes, in their order.
+#[derive(Debug, Drop)]
+pub struct EntryRefs<'a> {
+    vec: Vec<EntryRef<'a>>,
+}
+
+impl<'a> Model for EntryRefs<'a> {
+    ghost use Rattle.std.specs.Prelude.{List};
+    ghost use Rattle.gx_object.specs.declared.tree.decode.EntryRef.{EntryRef};
+
+    ghost Value = { List EntryRef };
+
+    ghost view = { λ entries. entries.vec.items };
+}
+
+impl<'a> EntryRefs<'a> {
+    pub fn from_vec(vec: Vec<EntryRef<'a>>) -> EntryRefs<'a>
+        ensures { result ≡ vec.entry.items }
+    {
+        EntryRefs { vec }
+    }
+
+    pub fn into_vec(self) -> Vec<EntryRef<'a>>
+        ensures { result.items ≡ self.entry }
+    {
+        self.vec
+    }
+
+    pub fn as_slice(&self) -> &[EntryRef<'a>]
+        ensures { result.now ≡ self.now }
+    {
+        &self.vec
+    }
+
+    pub(crate) fn allocator(&self) -> Global {
+        *self.vec.allocator()
+    }
+}
+
 /// The further headers of a commit, in their order.
 #[derive(Debug, Drop)]
 pub struct Headers {
-    vec: Vec<ExtraHeader>,
+    vec: Vec<OwnedHeader>,
 }
 
 impl Model for Headers {
     ghost use Rattle.std.specs.Prelude.{List};
-    ghost use Rattle.gx_object.specs.declared.commit.ExtraHeader.{ExtraHeader};
+    ghost use Rattle.gx_object.specs.declared.commit.OwnedHeader.{OwnedHeader};
 
-    ghost Value = { List ExtraHeader };
+    ghost Value = { List OwnedHeader };
 
     ghost view = { λ headers. headers.vec.items };
 }
@@ -123,19 +162,19 @@ impl Headers {
         }
     }
 
-    pub fn from_vec(vec: Vec<ExtraHeader>) -> Headers
+    pub fn from_vec(vec: Vec<OwnedHeader>) -> Headers
         ensures { result ≡ vec.items }
     {
         Headers { vec }
     }
 
-    pub fn into_vec(self) -> Vec<ExtraHeader>
+    pub fn into_vec(self) -> Vec<OwnedHeader>
         ensures { result.items ≡ self }
     {
         self.vec
     }
 
-    pub fn as_slice(&self) -> &[ExtraHeader]
+    pub fn as_slice(&self) -> &[OwnedHeader]
         ensures { result.now ≡ self.now }
     {
         &self.vec

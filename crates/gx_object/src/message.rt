@@ -109,14 +109,14 @@ fn blank_line(message: &[u8]) -> Option<usize>
         .position(|(a, b)| *a == b'\n' && *b == b'\n')
 }
 
-fn trim_start(text: &[u8]) -> &[u8]
+pub(crate) fn trim_start(text: &[u8]) -> &[u8]
     ensures { result.now ≡ trim_start text.now }
 {
     let spaces = leading_spaces(text);
     text.split_at(spaces).1
 }
 
-fn trim_end(text: &[u8]) -> &[u8]
+pub(crate) fn trim_end(text: &[u8]) -> &[u8]
     ensures { result.now ≡ trim_end text.now }
 {
     let spaces = trailing_spaces(text);

@@ -1,11 +1,16 @@
 ghost use Rattle.std.specs.Prelude.{◌≡◌, IfOk};
 ghost use Rattle.gx_object.specs.Identity.{is_writable_identity};
 
+mod date;
+mod decode;
 #[cfg(test)]
 mod tests;
 mod write;
 
+pub(crate) use decode::split_identity;
+pub use decode::{BadTime, SignatureError, SignatureRef};
 use gx_hash::{Bytes, NoMemory};
+pub(crate) use write::{can_write_offset, can_write_text};
 pub use write::{is_writable_identity, push_identity, unwritable_identity};
 
 /// A moment, and how far ahead of UTC the clock stood that told it.

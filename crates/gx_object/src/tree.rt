@@ -2,12 +2,16 @@ ghost use Rattle.std.specs.Prelude.{◌≡◌, ◌||◌, ◌↔◌, ◌⊎◌, I
 ghost use Rattle.gx_object.specs.Mode.{mode_of, kind_of_mode, is_tree_mode, entry_kind_name};
 ghost use Rattle.gx_object.specs.Tree.{octal_of};
 
+mod decode;
+mod iter;
 #[cfg(test)]
 mod tests;
 mod write;
 
 use crate::Entries;
+pub use decode::{EntryRef, TreeRef};
 use gx_hash::{Bytes, ObjectId};
+pub use iter::TreeRefIter;
 pub use write::{push_entry, push_tree};
 
 /// What an entry of a tree can be.

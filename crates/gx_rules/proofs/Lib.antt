@@ -1,1 +1,14 @@
+pub mod CategoryLemmas
+pub mod ComponentLaws
+pub mod IgnorableLemmas
 pub mod NameLaws
+pub mod NamespaceLemmas
+pub mod PathLaws
+pub mod PathLemmas
+pub mod PatternLaws
+pub mod PatternLetters
+pub mod PatternMatching
+pub mod PatternPieces
+pub mod PatternSets
+pub mod RefFormatLemmas
+pub mod SpellingLemmas

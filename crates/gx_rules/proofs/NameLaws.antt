@@ -1,9 +1,10 @@
--- At most one error tells the first rule that a name breaks.
-use Rattle.std.proofs.Common.{◌≡◌, ℕ, List, ap, arith, refl, inl, inr}
+-- Partial names, and that at most one error tells the first rule that a name breaks.
+use Rattle.std.proofs.Common.{◌≡◌, ◌≢◌, ◌<◌, ℕ, List, ap, arith, refl, inl, inr}
 use Rattle.std.proofs.lemmas.Bool.{cases_order}
 use Rattle.gx_rules.specs.declared.name_error.NameError.{NameError}
 use Rattle.gx_rules.specs.declared.name_error.NameError.TheVariants.{Empty, InvalidByte, RepeatedDot, ReflogPortion, StartsWithSlash, EndsWithSlash, RepeatedSlash, StartsWithDot, LockFileSuffix, EndsWithDot, SingleAt, SomeLowercase, NoMemory}
-use Rattle.gx_rules.specs.Name.{Breaks, rank, IsFirstPlace, IsFirstBroken}
+use Rattle.gx_rules.specs.Name.{Breaks, rank, IsFirstPlace, IsFirstBroken, IsPartialName}
+use Rattle.gx_rules.specs.NameRules.{Keeps, BreaksFirst}
 
 -- a property has one first place
 same_place : (P : ℕ → Type 0) (a b : ℕ) → IsFirstPlace P a → IsFirstPlace P b → a ≡ b
@@ -42,3 +43,26 @@ one_first_broken name a b first second =
         | inr above ↦ absurd (first.earlier b above second.broken)
       ]
     ]
+
+-- a name that keeps the rules up to the last is a partial one
+pub is_partial_name : (name : List ℕ) → Keeps 0 11 name → IsPartialName name
+is_partial_name name keeps Empty apart = keeps Empty (omega arith) (omega arith)
+is_partial_name name keeps (InvalidByte at) apart = keeps (InvalidByte at) (omega arith) (omega arith)
+is_partial_name name keeps (RepeatedDot at) apart = keeps (RepeatedDot at) (omega arith) (omega arith)
+is_partial_name name keeps (ReflogPortion at) apart = keeps (ReflogPortion at) (omega arith) (omega arith)
+is_partial_name name keeps StartsWithSlash apart = keeps StartsWithSlash (omega arith) (omega arith)
+is_partial_name name keeps EndsWithSlash apart = keeps EndsWithSlash (omega arith) (omega arith)
+is_partial_name name keeps (RepeatedSlash at) apart = keeps (RepeatedSlash at) (omega arith) (omega arith)
+is_partial_name name keeps (StartsWithDot at) apart = keeps (StartsWithDot at) (omega arith) (omega arith)
+is_partial_name name keeps (LockFileSuffix at) apart = keeps (LockFileSuffix at) (omega arith) (omega arith)
+is_partial_name name keeps EndsWithDot apart = keeps EndsWithDot (omega arith) (omega arith)
+is_partial_name name keeps SingleAt apart = keeps SingleAt (omega arith) (omega arith)
+is_partial_name name keeps SomeLowercase apart = absurd (apart refl)
+is_partial_name name keeps NoMemory apart = λ broken. broken
+
+-- the first of these rules that a name breaks is the first of all, and not the last
+pub is_first_of_partial : (name : List ℕ) (error : NameError) → BreaksFirst 0 11 name error → IsFirstBroken name error × (error ≢ SomeLowercase)
+is_first_of_partial name error first = (
+  record { broken = first.broken; earlier = λ other below. first.earlier other (omega arith) below },
+  λ same. let below : rank error < 11 = first.to in let last : rank error ≡ 11 = ap rank same in absurd (omega arith),
+)

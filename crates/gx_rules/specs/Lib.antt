@@ -1,2 +1,10 @@
+pub mod Category
+pub mod Component
+pub mod ComponentRules
 pub mod Name
 pub mod NameRules
+pub mod Namespace
+pub mod Path
+pub mod Pattern
+pub mod PatternReading
+pub mod RefFormat

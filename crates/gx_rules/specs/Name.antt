@@ -1,5 +1,5 @@
 -- The rule of reference names, and their order. The rule is that of git-check-ref-format(1), DESCRIPTION.
-use Rattle.std.specs.Prelude.{◌≡◌, ℕ, ◌+◌, ◌-◌, ◌<◌, ◌||◌, ◌&&◌, false, nat_lt, nat_le, ◌==◌, Bool, IsTrue, List, [], length, drop, codes, slice_get, IsSomeAnd, ◌⊎◌, nat_eq}
+use Rattle.std.specs.Prelude.{◌≡◌, ◌≢◌, ℕ, ◌+◌, ◌-◌, ◌<◌, ◌||◌, ◌&&◌, false, nat_lt, nat_le, ◌==◌, Bool, IsTrue, List, [], length, drop, codes, slice_get, IsSomeAnd, ◌⊎◌, nat_eq}
 use Rattle.std.specs.declared.cmp.Ordering.{Ordering}
 use Rattle.std.specs.Ordering.{nat_cmp}
 use Rattle.std.specs.Cmp.Lexicographic.{slice_cmp}
@@ -86,6 +86,10 @@ rank NoMemory = 12
 -- the name breaks no rule
 abbrev pub IsFullName : List ℕ → Type 0
 IsFullName name = (error : NameError) → ¬ Breaks name error
+
+-- the name breaks no rule but perhaps the one on names without a slash (git-check-ref-format(1), --allow-onelevel)
+abbrev pub IsPartialName : List ℕ → Type 0
+IsPartialName name = (error : NameError) → error ≢ SomeLowercase → ¬ Breaks name error
 
 -- the error tells the first rule that the name breaks
 pub record IsFirstBroken (name : List ℕ) (error : NameError) : Type 0 where

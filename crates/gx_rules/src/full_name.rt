@@ -1,9 +1,11 @@
-ghost use Rattle.std.specs.Prelude.{◌≡◌, ◌⊎◌, IfOk, MatchResult};
+ghost use Rattle.std.specs.Prelude.{◌≡◌, ◌⊎◌, IfOk, MatchOption, MatchResult};
 ghost use Rattle.bstr.specs.BStr.{bstr_bytes};
+ghost use Rattle.gx_rules.specs.Category.{category_of, short_name};
 ghost use Rattle.gx_rules.specs.Name.{IsFullName, IsFirstBroken};
 
-use crate::NameError;
+use crate::category::{category_of, short_name};
 use crate::name_rules::check_full_name;
+use crate::{Category, NameError, PartialName};
 use bstr::BStr;
 use gx_hash::{Bytes, NoMemory};
 use std::alloc::{AllocError, Global};
@@ -55,6 +57,35 @@ impl FullName {
         ensures { bstr_bytes result ≡ self.now }
     {
         BStr::new(self.as_slice())
+    }
+
+    /// The same name, where a partial one is taken.
+    pub fn to_partial(&self) -> Result<PartialName, NoMemory>
+        ensures { IfOk result (λ partial. partial ≡ self.now) }
+    {
+        Ok(PartialName::new_unchecked(self.bytes.try_clone()?))
+    }
+
+    /// The name as people know it: without the directory that its category keeps it in.
+    pub fn shorten(&self) -> BStr<'_>
+        ensures { bstr_bytes result ≡ short_name self.now }
+    {
+        BStr::new(short_name(self.as_slice()))
+    }
+
+    /// What the reference is for, if its directory says so.
+    pub fn category(&self) -> Option<Category>
+        ensures { result ≡ category_of self.now }
+    {
+        category_of(self.as_slice())
+    }
+
+    pub fn category_and_short_name(&self) -> Option<(Category, BStr<'_>)>
+        ensures { MatchOption result (category_of self.now ≡ None)
+            (λ found. (category_of self.now ≡ Some found.0) × (bstr_bytes found.1 ≡ short_name self.now)) }
+    {
+        let category = self.category()?;
+        Some((category, self.shorten()))
     }
 
     pub fn try_clone(&self) -> Result<FullName, NoMemory>

@@ -1,6 +1,6 @@
-//! The rules of full names, asked in their order.
-ghost use Rattle.std.specs.Prelude.{◌≡◌, ◌+◌, ◌-◌, ◌≤◌, ◌<◌, ◌↔◌, IsTrue, length};
-ghost use Rattle.gx_rules.specs.Name.{is_forbidden, is_capital, ForbiddenAt, StandsAt, BeginsComponent, EndsComponent, HiddenAt, LockAt};
+//! The rules of reference names, asked in their order.
+ghost use Rattle.std.specs.Prelude.{◌≡◌, ◌+◌, ◌-◌, ◌≤◌, ◌<◌, ◌↔◌, IsTrue, length, ◌≢◌, MatchResult};
+ghost use Rattle.gx_rules.specs.Name.{IsPartialName, IsFirstBroken, is_forbidden, is_capital, ForbiddenAt, StandsAt, BeginsComponent, EndsComponent, HiddenAt, LockAt};
 ghost use Rattle.std.specs.List.{list_all};
 ghost use Rattle.gx_rules.specs.NameRules.{FindsFirst, Judges};
 
@@ -9,6 +9,23 @@ use crate::NameError;
 /// Whether the name is a full one, or the first rule that it breaks.
 pub(crate) fn check_full_name(name: &[u8]) -> Result<(), NameError>
     ensures { Judges 0 12 name.now result }
+{
+    check_rules_of_all(name)?;
+    check_single_level(name)
+}
+
+/// Whether the name is a partial one, or the first rule that it breaks.
+#[tactic(auto, using(crate::proofs::NameLaws::is_partial_name, crate::proofs::NameLaws::is_first_of_partial))]
+pub(crate) fn check_partial_name(name: &[u8]) -> Result<(), NameError>
+    ensures { MatchResult result (λ _. IsPartialName name.now)
+        (λ error. IsFirstBroken name.now error × (error ≢ NameError.SomeLowercase)) }
+{
+    check_rules_of_all(name)
+}
+
+/// The rules that partial names keep too.
+fn check_rules_of_all(name: &[u8]) -> Result<(), NameError>
+    ensures { Judges 0 11 name.now result }
 {
     check_bytes(name)?;
     check_slashes(name)?;
@@ -66,7 +83,7 @@ fn check_components(name: &[u8]) -> Result<(), NameError>
 
 /// The rules on the name as a whole.
 fn check_whole(name: &[u8]) -> Result<(), NameError>
-    ensures { Judges 9 12 name.now result }
+    ensures { Judges 9 11 name.now result }
 {
     if ends_with(name, b".") {
         return Err(NameError::EndsWithDot);
@@ -74,6 +91,13 @@ fn check_whole(name: &[u8]) -> Result<(), NameError>
     if name == b"@".as_slice() {
         return Err(NameError::SingleAt);
     }
+    Ok(())
+}
+
+/// The rule on full names without a slash.
+fn check_single_level(name: &[u8]) -> Result<(), NameError>
+    ensures { Judges 11 12 name.now result }
+{
     if find(name, b"/").is_none() && !are_capitals(name) {
         return Err(NameError::SomeLowercase);
     }

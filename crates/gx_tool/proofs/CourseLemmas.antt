@@ -1,11 +1,12 @@
 -- A run goes on by one request, or ends.
-use Rattle.std.proofs.Common.{◌≡◌, ◌∙◌, sym, ap, refl, subst, ℕ, ◌+◌, ◌≤◌, ◌<◌, List, [], ◌∷◌, ◌++◌, length, Option, None, arith, append_assoc, length-append, Bool, true, false, inl, inr}
+use Rattle.std.proofs.Common.{◌≡◌, ◌≢◌, ◌∙◌, sym, ap, refl, subst, ℕ, ◌+◌, ◌≤◌, ◌<◌, List, [], ◌∷◌, ◌++◌, length, Option, None, arith, append_assoc, length-append, Bool, true, false, inl, inr}
 use Rattle.std.specs.Prelude.{◌&&◌}
 use Rattle.std.specs.List.{flat_map, AllByRecursion}
 use Rattle.std.proofs.lemmas.List.{append-nil}
 use Rattle.std.proofs.lemmas.List.Folds.{list_all-append}
 use Rattle.std.proofs.lemmas.Grind.{flat_map-append}
 use Rattle.gx_tool.specs.declared.reply.Reply.{Reply}
+use Rattle.gx_tool.specs.declared.reply.Reply.TheVariants.{Committed, Refused}
 use Rattle.gx_tool.specs.declared.status.Status.{Status}
 use Rattle.gx_tool.specs.declared.status.Status.TheVariants.{Done, Refusals, Malformed, ReadFault, WriteFault, NoMemory, StoreFault, TooLong}
 use Rattle.gx_hash.specs.declared.kind.HashKind.{HashKind}
@@ -257,14 +258,14 @@ pub ends_write_fault : (limit : ℕ) (start now next : Moment) (old new : Readin
     → Serves now.store block reply next.store → WritesFront now.written next.written (reply_text reply)
     → Rose now.sink_faults next.sink_faults → Served limit start next WriteFault
 ends_write_fault limit start now next old new accepted block reply s fits m step w rose =
-    wrote_front limit start now next old new accepted block reply WriteFault s fits m step w (λ requests before few. (few, rose_before start.sink_faults now.sink_faults next.sink_faults s.sink_later rose, record { before = before; last = reply; part = w.part; more = w.more; all = refl; written = refl; text = w.is }, refl))
+    wrote_front limit start now next old new accepted block reply WriteFault s fits m step w (λ requests before few. (few, rose_before start.sink_faults now.sink_faults next.sink_faults s.sink_later rose, record { before = before; last = reply; part = w.part; more = w.more; all = refl; written = refl; text = w.is; short = w.short }, refl))
 
 pub ends_sink_memory : (limit : ℕ) (start now next : Moment) (old new : Reading) (accepted : Bool) (block : Request) (reply : Reply)
     → SoFar limit start now old accepted → IsRequest old.hash block → Moves old new now.left next.left (spelling block)
     → Serves now.store block reply next.store → WritesFront now.written next.written (reply_text reply)
     → Served limit start next NoMemory
 ends_sink_memory limit start now next old new accepted block reply s fits m step w =
-    wrote_front limit start now next old new accepted block reply NoMemory s fits m step w (λ requests before few. (few, inr (record { before = before; last = reply; part = w.part; more = w.more; all = refl; written = refl; text = w.is }, refl)))
+    wrote_front limit start now next old new accepted block reply NoMemory s fits m step w (λ requests before few. (few, inr (record { before = before; last = reply; part = w.part; more = w.more; all = refl; written = refl; text = w.is; short = w.short }, refl)))
 
 -- no memory for a reader
 pub ends_at_once : (limit : ℕ) (m : Moment) → Served limit m m NoMemory
@@ -278,12 +279,16 @@ ends_at_once limit m = record {
   ends = (omega arith, inl (refl, inl refl));
 }
 
+reply_some : (reply : Reply) → reply_text reply ≢ []
+reply_some (Committed id) none = cc
+reply_some (Refused refusal) none = cc
+
 -- the request was run, and no memory was left for its reply
 pub ends_print_memory : (limit : ℕ) (start now next : Moment) (old new : Reading) (accepted : Bool) (block : Request) (reply : Reply)
     → SoFar limit start now old accepted → IsRequest old.hash block → Moves old new now.left next.left (spelling block)
     → Serves now.store block reply next.store → next.written ≡ now.written → Served limit start next NoMemory
 ends_print_memory limit start now next old new accepted block reply s fits m step written =
-    ends_sink_memory limit start now next old new accepted block reply s fits m step (record { part = []; more = reply_text reply; is = refl; writes = subst (λ w. Writes now.written w []) (sym written) (writes_none now.written) })
+    ends_sink_memory limit start now next old new accepted block reply s fits m step (record { part = []; more = reply_text reply; is = refl; short = reply_some reply; writes = subst (λ w. Writes now.written w []) (sym written) (writes_none now.written) })
 
 some_ended : (line rest : List ℕ) → 0 < length (ended line ++ rest)
 some_ended line rest = omega (arith, length-append (ended line) rest, length-append line (10 ∷ []))

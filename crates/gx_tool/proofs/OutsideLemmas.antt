@@ -1,5 +1,5 @@
 -- Bytes that are taken or written one after another.
-use Rattle.std.proofs.Common.{◌≡◌, ◌∙◌, sym, ap, refl, subst, ℕ, ◌≤◌, List, [], ◌++◌, length, take, drop, Option, Some, None, arith, append_assoc, take-append-drop}
+use Rattle.std.proofs.Common.{◌≡◌, ◌≢◌, ◌∙◌, sym, ap, refl, subst, ℕ, ◌≤◌, List, [], ◌++◌, length, take, drop, Option, Some, None, arith, append_assoc, take-append-drop}
 use Rattle.std.proofs.lemmas.List.{append-nil, nil_from_length}
 use Rattle.gx_store.specs.Faults.{Rose}
 use Rattle.gx_store.specs.Outside.{Takes, Writes}
@@ -47,10 +47,11 @@ up_to_all a b bytes rest none w =
     let e : rest ≡ [] = nil_from_length rest none in
     subst (Writes a b) (sym (append-nil w.part) ∙ ap (λ l. w.part ++ l) (sym e) ∙ w.is) w.writes
 
-pub up_to_front : (a b c : Option (List ℕ)) (bytes rest : List ℕ) → WritesUpTo a b bytes rest → Writes b c [] → WritesFront a c bytes
-up_to_front a b c bytes rest w h = record {
+pub up_to_front : (a b c : Option (List ℕ)) (bytes rest : List ℕ) → length rest ≢ 0 → WritesUpTo a b bytes rest → Writes b c [] → WritesFront a c bytes
+up_to_front a b c bytes rest some w h = record {
   part = w.part ++ [];
   more = rest;
   is = ap (λ l. l ++ rest) (append-nil w.part) ∙ w.is;
+  short = λ none. some (ap length none);
   writes = writes_then a b c w.part [] w.writes h;
 }

@@ -1,6 +1,6 @@
 -- What a run did with its script, its store and its output, up to its end.
 use Rattle.std.specs.declared.alloc.Global.{Global}
-use Rattle.std.specs.Prelude.{String, string_bytes, codes, ◌≡◌, ℕ, ◌+◌, ◌≤◌, List, [], ◌∷◌, ◌++◌, length, Option, ◌⊎◌, true, false}
+use Rattle.std.specs.Prelude.{String, string_bytes, codes, ◌≡◌, ◌≢◌, ℕ, ◌+◌, ◌≤◌, List, [], ◌∷◌, ◌++◌, length, Option, ◌⊎◌, true, false}
 use Rattle.std.specs.List.{flat_map, AllByRecursion}
 use Rattle.gx_hash.specs.declared.kind.HashKind.{HashKind}
 use Rattle.gx_store.specs.State.{StoreState}
@@ -47,7 +47,7 @@ pub record Course (start now : Moment) (requests : List Request) (replies : List
   pub run : ServesAll start.store requests replies store
   pub writes : Writes start.written now.written out
 
--- all replies but the last were written, and a front of that
+-- all replies but the last were written, and of that a front, but not all
 pub record IsCut (replies : List Reply) (out : List ℕ) : Type 0 where
   pub before : List Reply
   pub last : Reply
@@ -56,6 +56,7 @@ pub record IsCut (replies : List Reply) (out : List ℕ) : Type 0 where
   pub all : replies ≡ before ++ last ∷ []
   pub written : out ≡ texts before ++ part
   pub text : part ++ more ≡ reply_text last
+  pub short : more ≢ []
 
 -- a whole request of the store's kind stands at the front of the rest, and got no reply
 pub record GotNoReply (hash : HashKind) (old : StoreState) (rest : List ℕ) (error : ExecuteError) (new : StoreState) : Type 0 where
@@ -105,11 +106,12 @@ pub record WritesUpTo (written written' : Option (List ℕ)) (bytes rest : List 
   pub is : part ++ rest ≡ bytes
   pub writes : Writes written written' part
 
--- a front of the bytes was written
+-- a front of the bytes was written, but not all
 pub record WritesFront (written written' : Option (List ℕ)) (bytes : List ℕ) : Type 0 where
   pub part : List ℕ
   pub more : List ℕ
   pub is : part ++ more ≡ bytes
+  pub short : more ≢ []
   pub writes : Writes written written' part
 
 -- the words after the program's name that ask for a run: a store, and `apply`

@@ -3,6 +3,8 @@
 
 mod execute;
 mod laws;
+#[cfg(test)]
+mod plain;
 mod reply;
 mod run;
 mod status;

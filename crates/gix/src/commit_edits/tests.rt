@@ -5,6 +5,7 @@ use gx_store::{Header, Memory, Objects};
 use std::test::Fail;
 
 mod faults;
+mod plain;
 mod refusals;
 
 const MAIN: &[u8] = b"refs/heads/main";

@@ -1,6 +1,6 @@
 // Expected ids and sizes are those of git 2.39: `git commit-tree`, `git hash-object -t commit`.
 use crate::samples::{is_object, signature};
-use crate::{Commit, EncodeError, ExtraHeader, Field, Headers, Ids, WriteTo, push_commit};
+use crate::{Commit, EncodeError, Field, Headers, Ids, OwnedHeader, WriteTo, push_commit};
 use gx_hash::{Bytes, HashKind, NoMemory, ObjectId};
 use std::alloc::Global;
 
@@ -69,7 +69,7 @@ fn headers(alloc: Global, name: &[u8], value: &[u8]) -> Result<Headers, NoMemory
     let name = Bytes::from_slice(alloc, name)?;
     let value = Bytes::from_slice(alloc, value)?;
     let mut headers = Vec::new(alloc);
-    headers.push(ExtraHeader { name, value })?;
+    headers.push(OwnedHeader { name, value })?;
     Ok(Headers::from_vec(headers))
 }
 

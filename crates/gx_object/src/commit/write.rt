@@ -6,7 +6,7 @@ ghost use Rattle.gx_object.specs.Commit.{id_line, identity_line, head_bytes, pla
 ghost use Rattle.gx_object.specs.declared.kind.Kind.TheVariants as object_kind;
 
 use crate::{
-    Commit, EncodeError, ExtraHeader, Field, Kind, Signature, WriteTo, push_identity,
+    Commit, EncodeError, Field, Kind, OwnedHeader, Signature, WriteTo, push_identity,
     unwritable_identity,
 };
 use gx_hash::{Bytes, NoMemory, ObjectId};
@@ -67,7 +67,7 @@ fn push_head(
     push_identity_line(out, b"committer ", committer)
 }
 
-fn push_id_line(out: &mut Vec<u8>, word: &[u8], id: &ObjectId) -> Result<(), NoMemory>
+pub(crate) fn push_id_line(out: &mut Vec<u8>, word: &[u8], id: &ObjectId) -> Result<(), NoMemory>
     ensures { OnOk result (out.new.items ≡ out.old.items ++ id_line word.now id.now) }
 {
     out.extend_from_slice(word)?;
@@ -85,7 +85,11 @@ fn push_parents(out: &mut Vec<u8>, parents: &[ObjectId]) -> Result<(), NoMemory>
     Ok(())
 }
 
-fn push_identity_line(out: &mut Vec<u8>, word: &[u8], who: &Signature) -> Result<(), NoMemory>
+pub(crate) fn push_identity_line(
+    out: &mut Vec<u8>,
+    word: &[u8],
+    who: &Signature,
+) -> Result<(), NoMemory>
     ensures { OnOk result (out.new.items ≡ out.old.items ++ identity_line word.now who.now) }
 {
     out.extend_from_slice(word)?;
@@ -105,7 +109,7 @@ fn push_encoding(out: &mut Vec<u8>, encoding: &Option<Bytes>) -> Result<(), NoMe
     Ok(())
 }
 
-fn push_headers(out: &mut Vec<u8>, headers: &[ExtraHeader]) -> Result<(), NoMemory>
+fn push_headers(out: &mut Vec<u8>, headers: &[OwnedHeader]) -> Result<(), NoMemory>
     ensures { OnOk result (out.new.items ≡ out.old.items ++ flat_map header_line headers.now) }
 {
     for header in headers {
@@ -114,7 +118,7 @@ fn push_headers(out: &mut Vec<u8>, headers: &[ExtraHeader]) -> Result<(), NoMemo
     Ok(())
 }
 
-fn push_header(out: &mut Vec<u8>, header: &ExtraHeader) -> Result<(), NoMemory>
+fn push_header(out: &mut Vec<u8>, header: &OwnedHeader) -> Result<(), NoMemory>
     ensures { OnOk result (out.new.items ≡ out.old.items ++ header_line header.now) }
 {
     out.extend_from_slice(header.name.as_slice())?;
@@ -167,20 +171,20 @@ fn fits_in_header_name(name: &[u8]) -> bool
     name.iter().all(|b| *b != b' ' && *b != b'\n')
 }
 
-fn can_write_header(header: &ExtraHeader) -> bool
+fn can_write_header(header: &OwnedHeader) -> bool
     ensures { result ≡ is_writable_header header.now }
 {
     let name = header.name.as_slice();
     !name.is_empty() && fits_in_header_name(name)
 }
 
-fn can_write_headers(headers: &[ExtraHeader]) -> bool
+fn can_write_headers(headers: &[OwnedHeader]) -> bool
     ensures { result ≡ list_all is_writable_header headers.now }
 {
     headers.iter().all(|h| can_write_header(h))
 }
 
-fn has_no_newline(text: &[u8]) -> bool
+pub(crate) fn has_no_newline(text: &[u8]) -> bool
     ensures { result ≡ list_all (λ b. not (b == 10)) text.now }
 {
     text.iter().all(|b| *b != b'\n')

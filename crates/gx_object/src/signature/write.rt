@@ -83,13 +83,13 @@ pub fn unwritable_identity(author: &Signature, committer: &Signature) -> Option<
     }
 }
 
-fn can_write_text(text: &[u8]) -> bool
+pub(crate) fn can_write_text(text: &[u8]) -> bool
     ensures { result ≡ is_writable_text text.now }
 {
     text.iter().all(|b| *b != b'<' && *b != b'>' && *b != b'\n')
 }
 
-fn can_write_offset(offset: i32) -> bool
+pub(crate) fn can_write_offset(offset: i32) -> bool
     ensures { result ≡ is_writable_offset offset }
 {
     offset.unsigned_abs() < 360_000

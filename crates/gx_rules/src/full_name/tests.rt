@@ -112,3 +112,43 @@ fn a_name_keeps_and_copies_its_bytes(rt: HostRuntime) -> Result<(), Fail> {
     assert!(rt; name < FullName::new(rt.alloc(), b"refs/heads/main2")?);
     Ok(())
 }
+
+/// Whether a full name has that category and short name.
+fn is_short(
+    rt: &HostRuntime,
+    name: &str,
+    category: Category,
+    short: &str,
+) -> Result<bool, NameError> {
+    let name = FullName::new(rt.alloc(), name.as_bytes())?;
+    Ok(match name.category_and_short_name() {
+        Some((found, text)) => found == category && text.as_bytes() == short.as_bytes(),
+        None => false,
+    })
+}
+
+#[test]
+fn tells_categories_and_short_names(rt: HostRuntime) -> Result<(), Fail> {
+    assert!(rt; is_short(&rt, "refs/tags/v1.0", Category::Tag, "v1.0")?);
+    assert!(rt; is_short(&rt, "refs/heads/a/b", Category::LocalBranch, "a/b")?);
+    assert!(rt;
+        is_short(
+            &rt,
+            "refs/remotes/origin/main",
+            Category::RemoteBranch,
+            "origin/main"
+        )?
+    );
+    assert!(rt; is_short(&rt, "refs/notes/commits", Category::Note, "notes/commits")?);
+    assert!(rt; is_short(&rt, "HEAD", Category::PseudoRef, "HEAD")?);
+    Ok(())
+}
+
+#[test]
+fn keeps_names_without_a_category_whole(rt: HostRuntime) -> Result<(), Fail> {
+    let name = FullName::new(rt.alloc(), b"refs/bisect/bad")?;
+    assert_eq!(rt; name.category(), None);
+    assert_eq!(rt; name.shorten().as_bytes(), name.as_slice());
+    assert_eq!(rt; name.to_partial()?.as_slice(), name.as_slice());
+    Ok(())
+}

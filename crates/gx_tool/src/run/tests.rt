@@ -9,6 +9,7 @@ use std::test::Fail;
 mod ends;
 mod faults;
 mod paths;
+mod replies;
 
 /// A commit of one file. The ids here are those that `git hash-object`, `git mktree` and `git commit-tree` give.
 const FIRST: &[u8] =

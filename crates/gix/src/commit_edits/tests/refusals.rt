@@ -15,10 +15,12 @@ fn refuses(
     let answer = repository.commit_edits(
         alloc, committer, author, &reference, b"c1\n", parents, edits,
     );
-    if is_stored(alloc, repository.store(), BLOB)? {
-        return Ok(false);
-    }
-    Ok(says(alloc, &answer, wanted)? && has_new_references(alloc, repository.store())?)
+    let store = repository.store();
+    Ok(
+        says(alloc, &answer, wanted)?
+            && !is_stored(alloc, store, BLOB)?
+            && has_new_references(alloc, store)?,
+    )
 }
 
 /// Whether it answers edits on the main branch so.

@@ -1,7 +1,7 @@
 use super::*;
 
 /// A commit of one file at the path.
-fn commit_at(alloc: Global, name: &[u8], path: &[u8]) -> Result<Bytes, NoMemory> {
+pub(super) fn commit_at(alloc: Global, name: &[u8], path: &[u8]) -> Result<Bytes, NoMemory> {
     joined(
         alloc,
         &[

@@ -1,0 +1,8 @@
+use Rattle.std.proofs.Common.{◌≡◌, map, take}
+use Rattle.bstr.specs.BStr.{bstr_bytes}
+use Rattle.gx_hash.specs.ObjectId.{hex_of}
+use Rattle.gx_object.proofs.commit.owned.own_ids.Given as goal
+
+-- the ids so far are read
+abbrev pub invariant-loop-text : goal.invariant-loop-text
+invariant-loop-text l = map hex_of l.ids.items ≡ map bstr_bytes (take l.text-index l.digits)

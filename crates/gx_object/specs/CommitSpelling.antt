@@ -1,0 +1,133 @@
+-- How a commit is read.
+use Rattle.std.specs.Prelude.{◌≡◌, ◌≢◌, ℕ, ◌≤◌, ◌*◌, ◌⊎◌, List, [], ◌∷◌, ◌++◌, length, map, codes, Option, Some, None, Bool, false, ◌==◌, ◌&&◌, if◌then◌else◌}
+use Rattle.std.specs.List.{flat_map, AllByRecursion}
+use Rattle.std.specs.Option.{option_map}
+use Rattle.bstr.specs.BStr.{bstr_bytes}
+use Rattle.gx_hash.specs.HashKind.{len_in_bytes}
+use Rattle.gx_hash.specs.declared.kind.HashKind.{HashKind}
+use Rattle.gx_object.specs.declared.commit.decode.ExtraHeader.{ExtraHeader}
+use Rattle.gx_object.specs.declared.commit.decode.CommitRef.{CommitRef}
+use Rattle.gx_object.specs.Commit.{folded_byte, encoding_line}
+use Rattle.gx_object.specs.IdentitySpelling.{IdentityText, identity_text, SpellsIdentity}
+
+-- a further header, as it stands in an object
+pub record HeaderText : Type 0 where
+  pub name : List ℕ
+  pub raw : List ℕ
+
+-- the parts of a commit, as they stand in an object
+pub record CommitText : Type 0 where
+  pub tree : List ℕ
+  pub parents : List (List ℕ)
+  pub author : IdentityText
+  pub committer : IdentityText
+  pub encoding : Option (List ℕ)
+  pub extra_headers : List HeaderText
+  pub message : List ℕ
+
+abbrev pub header_text : ExtraHeader → HeaderText
+header_text h = record { name = bstr_bytes h.name; raw = bstr_bytes h.raw }
+
+abbrev pub commit_text : CommitRef → CommitText
+commit_text c = record {
+  tree = bstr_bytes c.tree;
+  parents = map bstr_bytes c.parents.items;
+  author = identity_text c.author;
+  committer = identity_text c.committer;
+  encoding = option_map bstr_bytes c.encoding;
+  extra_headers = map header_text c.extra_headers;
+  message = bstr_bytes c.message;
+}
+
+-- 0 to 9, and a to f
+abbrev pub IsLowerHexDigit : ℕ → Type 0
+IsLowerHexDigit b = ((48 ≤ b) × (b ≤ 57)) ⊎ ((97 ≤ b) × (b ≤ 102))
+
+-- An id stands in a header as its hex digits, two a byte, in lower case. (Git, "Git Internals - Git Objects")
+pub record IsHexId (hash : HashKind) (text : List ℕ) : Type 0 where
+  pub size : length text ≡ 2 * len_in_bytes hash
+  pub digits : AllByRecursion IsLowerHexDigit text
+
+-- the text has no newline
+abbrev pub IsOneLine : List ℕ → Type 0
+IsOneLine text = AllByRecursion (λ b. b ≢ 10) text
+
+-- an encoding is named in one line, which is not empty
+abbrev pub IsEncoding : List ℕ → Type 0
+IsEncoding text = (text ≢ []) × IsOneLine text
+
+-- a header's name has at least one byte, no space and no newline
+abbrev pub IsHeaderName : List ℕ → Type 0
+IsHeaderName name = (name ≢ []) × AllByRecursion (λ b. (b ≢ 32) × (b ≢ 10)) name
+
+-- a value as it stands in an object: a space follows each of its newlines
+abbrev pub folded : List ℕ → List ℕ
+folded value = flat_map folded_byte value
+
+abbrev pub IsHeader : HeaderText → Type 0
+IsHeader h = IsHeaderName h.name × ((value : List ℕ) × (h.raw ≡ folded value))
+
+-- the header stands in one line, as an encoding does
+abbrev pub IsEncodingHeader : HeaderText → Type 0
+IsEncodingHeader h = (h.name ≡ codes "encoding") × IsEncoding h.raw
+
+-- The first header behind the committer is the encoding, if it is spelled as one. (Ours: Git reads the first such header, wherever it stands)
+abbrev pub HasEncoding : Option (List ℕ) → List HeaderText → Type 0
+HasEncoding (Some text) headers = IsEncoding text
+HasEncoding None [] = Unit {0}
+HasEncoding None (h ∷ headers) = IsEncodingHeader h → ⊥
+
+-- a line with a word and a text
+abbrev pub text_line : List ℕ → List ℕ → List ℕ
+text_line word text = word ++ (text ++ 10 ∷ [])
+
+abbrev pub raw_line : HeaderText → List ℕ
+raw_line h = h.name ++ (32 ∷ h.raw ++ 10 ∷ [])
+
+-- A commit is lines with its tree, its parents, its author and its committer, one with the message's encoding where it is told, further headers, an empty line, and the message. (Git, "Git Internals - Git Objects", "Commit Objects"; gitformat-signature, "Commit signatures")
+pub record SpellsCommit (hash : HashKind) (bytes : List ℕ) (c : CommitText) : Type 0 where
+  pub author_line : List ℕ
+  pub committer_line : List ℕ
+  pub whole : bytes ≡ text_line (codes "tree ") c.tree ++ (flat_map (text_line (codes "parent ")) c.parents ++ (text_line (codes "author ") author_line ++ (text_line (codes "committer ") committer_line ++ (encoding_line c.encoding ++ (flat_map raw_line c.extra_headers ++ 10 ∷ c.message)))))
+  pub tree_id : IsHexId hash c.tree
+  pub parent_ids : AllByRecursion (IsHexId hash) c.parents
+  pub author_open : IsOneLine author_line
+  pub author_is : SpellsIdentity author_line c.author
+  pub committer_open : IsOneLine committer_line
+  pub committer_is : SpellsIdentity committer_line c.committer
+  pub encoding_is : HasEncoding c.encoding c.extra_headers
+  pub headers : AllByRecursion IsHeader c.extra_headers
+
+-- some bytes behind the front make it spell a commit
+pub record BeginsCommit (hash : HashKind) (front : List ℕ) : Type 0 where
+  pub more : List ℕ
+  pub commit : CommitText
+  pub spells : SpellsCommit hash (front ++ more) commit
+
+-- nothing, or text that ends with a newline
+abbrev pub IsWholeLines : List ℕ → Type 0
+IsWholeLines text = (text ≡ []) ⊎ ((front : List ℕ) × (text ≡ front ++ 10 ∷ []))
+
+-- the bytes begin with lines that begin a commit
+pub record BeginsWith (hash : HashKind) (bytes front : List ℕ) : Type 0 where
+  pub rest : List ℕ
+  pub whole : bytes ≡ front ++ rest
+  pub lines : IsWholeLines front
+  pub begins : BeginsCommit hash front
+
+-- The bytes spell no commit, and go wrong in the line that begins behind the longest such front.
+pub record IsNoCommit (hash : HashKind) (bytes : List ℕ) (at : ℕ) : Type 0 where
+  pub none : (c : CommitText) → SpellsCommit hash bytes c → ⊥
+  pub front : List ℕ
+  pub place : at ≡ length front
+  pub good : BeginsWith hash bytes front
+  pub longest : (other : List ℕ) → BeginsWith hash bytes other → length other ≤ length front
+
+-- a text without the one space behind each newline; the flag tells whether it stands behind one
+abbrev pub unfolded_behind : Bool → List ℕ → List ℕ
+unfolded_behind newline [] = []
+unfolded_behind newline (b ∷ bs) = if newline && b == 32 then unfolded_behind false bs else b ∷ unfolded_behind (b == 10) bs
+
+-- A value's lines lack the space that each but the first begins with in an object.
+abbrev pub unfolded : List ℕ → List ℕ
+unfolded raw = unfolded_behind false raw

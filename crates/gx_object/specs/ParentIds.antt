@@ -1,0 +1,35 @@
+-- The ids of a commit's parents, one after another.
+use Rattle.std.specs.Prelude.{◌≡◌, ℕ, ◌⊎◌, List, [], ◌∷◌, length, codes, Option, Some, None}
+use Rattle.std.specs.Iterator.{Count, at_most}
+use Rattle.gx_hash.specs.HashKind.{IsOfKind}
+use Rattle.gx_hash.specs.ObjectId.{hex_of}
+use Rattle.gx_hash.specs.declared.kind.HashKind.{HashKind}
+use Rattle.gx_hash.specs.declared.oid.ObjectId.{ObjectId}
+use Rattle.gx_object.specs.declared.commit.parent_ids.ParentIds.{ParentIds}
+use Rattle.gx_object.specs.CommitLines.{IsNoIdLine, HasParents}
+use Rattle.gx_object.specs.CommitItems.{HasIdLine}
+
+-- The lines in front are a tree and these parents, and no further parent stands behind them; without a tree there are none.
+abbrev pub HasParentsInFront : HashKind → List ℕ → List (List ℕ) → Type 0
+HasParentsInFront hash bytes parents =
+    ((tree more rest : List ℕ) × HasIdLine hash (codes "tree ") bytes tree more × HasParents hash more parents rest)
+    ⊎ (IsNoIdLine hash (codes "tree ") bytes × (parents ≡ []))
+
+-- the iterator has ids of this kind, with these digits, left
+pub record HasParentsLeft (hash : HashKind) (it : ParentIds) (parents : List (List ℕ)) : Type 0 where
+  pub kind : it.hash ≡ hash
+  pub rest : List ℕ
+  pub lines : HasParents hash it.rest.now parents rest
+
+-- the next id, where one is left, and then the end
+abbrev pub IsNextParent : HashKind → List (List ℕ) → Option ObjectId → ParentIds → Type 0
+IsNextParent hash (parent ∷ parents) (Some id) new = (hex_of id ≡ parent) × IsOfKind hash id × HasParentsLeft hash new parents
+IsNextParent hash [] None new = HasParentsLeft hash new []
+IsNextParent hash parents item new = ⊥
+
+abbrev pub GivesNextParent : ParentIds → Option ObjectId → ParentIds → Type 0
+GivesNextParent old item new = (hash : HashKind) (parents : List (List ℕ)) → HasParentsLeft hash old parents → IsNextParent hash parents item new
+
+-- no more ids come than bytes are left
+abbrev pub parent_bytes_left : ParentIds → Count
+parent_bytes_left it = at_most (length it.rest.now)

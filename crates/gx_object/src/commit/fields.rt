@@ -1,0 +1,121 @@
+// Single parts of a commit, read without the others.
+ghost use Rattle.std.specs.Prelude.{◌≡◌, IfOk, IfErr, MatchResult};
+ghost use Rattle.bstr.specs.BStr.{bstr_bytes};
+ghost use Rattle.gx_hash.specs.ObjectId.{hex_of};
+ghost use Rattle.gx_object.specs.IdentitySpelling.{identity_text};
+ghost use Rattle.gx_object.specs.CommitSpelling.{CommitText, SpellsCommit};
+ghost use Rattle.gx_object.specs.CommitLines.{IsNoHeader};
+ghost use Rattle.gx_object.specs.CommitItems.{TreeId, AuthorIs, CommitterIs, StandsInFront, GoesWrong, GoesWrongByAuthor, GoesWrongByCommitter, HasAuthor, HasCommitter, SkipsParents, SkipsHeaders, SkipsFurther, SpellsMessage, SpellsNone};
+ghost use Rattle.gx_object.specs.declared.commit.iter.Stage.TheVariants.{Tree};
+
+use crate::commit::decode::bad_line;
+use crate::commit::lines::{header, id_line, id_of, identity_line, message};
+use crate::{CommitRefIter, DecodeError, SignatureRef};
+use bstr::BStr;
+use gx_hash::{HashKind, ObjectId};
+
+impl<'a> CommitRefIter<'a> {
+    /// The id of the commit's tree.
+    pub fn tree_id(&self) -> Result<ObjectId, DecodeError>
+        ensures commit { (c : CommitText) → SpellsCommit self.now.hash self.now.bytes.now c → MatchResult result (λ id. hex_of id ≡ c.tree) (λ _. ⊥) }
+        ensures found { IfOk result (λ id. StandsInFront self.now (TreeId (hex_of id))) }
+        ensures refused { IfErr result (GoesWrong self.now Tree) }
+    {
+        let Some((text, _)) = id_line(self.bytes, b"tree ", self.hash) else {
+            return Err(bad_line(self.bytes, self.bytes));
+        };
+        Ok(id_of(text.as_bytes(), self.hash))
+    }
+
+    /// Who made the change, and when.
+    pub fn author(&self) -> Result<SignatureRef<'a>, DecodeError>
+        ensures commit { (c : CommitText) → SpellsCommit self.now.hash self.now.bytes.now c → MatchResult result (λ who. identity_text who ≡ c.author) (λ _. ⊥) }
+        ensures found { IfOk result (λ who. StandsInFront self.now (AuthorIs (identity_text who))) }
+        ensures refused { IfErr result (GoesWrongByAuthor self.now) }
+    {
+        let (signature, _) = self.author_line()?;
+        Ok(signature)
+    }
+
+    /// Who made the commit, and when.
+    pub fn committer(&self) -> Result<SignatureRef<'a>, DecodeError>
+        ensures commit { (c : CommitText) → SpellsCommit self.now.hash self.now.bytes.now c → MatchResult result (λ who. identity_text who ≡ c.committer) (λ _. ⊥) }
+        ensures found { IfOk result (λ who. StandsInFront self.now (CommitterIs (identity_text who))) }
+        ensures refused { IfErr result (GoesWrongByCommitter self.now) }
+    {
+        let (signature, _) = self.committer_line()?;
+        Ok(signature)
+    }
+
+    /// The message, where the bytes spell a commit.
+    pub fn message(&self) -> Result<BStr<'a>, DecodeError>
+        ensures commit { (c : CommitText) → SpellsCommit self.now.hash self.now.bytes.now c → MatchResult result (λ text. bstr_bytes text ≡ c.message) (λ _. ⊥) }
+        ensures found { IfOk result (λ text. SpellsMessage self.now (bstr_bytes text)) }
+        ensures refused { IfErr result (SpellsNone self.now) }
+    {
+        read_message(self)
+    }
+
+    fn author_line(&self) -> Result<(SignatureRef<'a>, &'a [u8]), DecodeError>
+        ensures { MatchResult result (λ p. HasAuthor self.now (identity_text p.0) p.1.now) (GoesWrongByAuthor self.now) }
+    {
+        let Some((_, rest)) = id_line(self.bytes, b"tree ", self.hash) else {
+            return Err(bad_line(self.bytes, self.bytes));
+        };
+        let rest = skip_parents(rest, self.hash);
+        let Some((signature, behind)) = identity_line(rest, b"author ") else {
+            return Err(bad_line(self.bytes, rest));
+        };
+        Ok((signature, behind))
+    }
+
+    fn committer_line(&self) -> Result<(SignatureRef<'a>, &'a [u8]), DecodeError>
+        ensures { MatchResult result (λ p. HasCommitter self.now (identity_text p.0) p.1.now) (GoesWrongByCommitter self.now) }
+    {
+        let (_, rest) = self.author_line()?;
+        let Some((signature, behind)) = identity_line(rest, b"committer ") else {
+            return Err(bad_line(self.bytes, rest));
+        };
+        Ok((signature, behind))
+    }
+}
+
+fn read_message<'a>(items: &CommitRefIter<'a>) -> Result<BStr<'a>, DecodeError>
+    ensures { MatchResult result (λ text. SpellsMessage items.now (bstr_bytes text)) (SpellsNone items.now) }
+{
+    let (_, rest) = items.committer_line()?;
+    let rest = skip_headers(rest);
+    let Some(text) = message(rest) else {
+        return Err(bad_line(items.bytes, rest));
+    };
+    Ok(text)
+}
+
+fn skip_headers(bytes: &[u8]) -> &[u8]
+    ensures { SkipsHeaders bytes.now result.now }
+{
+    let Some((_, rest)) = header(bytes) else {
+        return bytes;
+    };
+    skip_further(rest)
+}
+
+fn skip_further(bytes: &[u8]) -> &[u8]
+    ensures { SkipsFurther bytes.now result.now × IsNoHeader result.now }
+{
+    let mut rest = bytes;
+    while let Some((_, more)) = header(rest) {
+        rest = more;
+    }
+    rest
+}
+
+fn skip_parents(bytes: &[u8], hash: HashKind) -> &[u8]
+    ensures { SkipsParents hash bytes.now result.now }
+{
+    let mut rest = bytes;
+    while let Some((_, more)) = id_line(rest, b"parent ", hash) {
+        rest = more;
+    }
+    rest
+}

@@ -1,0 +1,158 @@
+// A commit's parts, one after another.
+ghost use Rattle.std.specs.Prelude.{◌≡◌, [], ◌∷◌, MatchOption};
+ghost use Rattle.std.specs.Iterator.{at_most};
+ghost use Rattle.gx_hash.specs.declared.kind.HashKind.{HashKind};
+ghost use Rattle.gx_object.specs.declared.commit.iter.Stage.TheVariants.{Tree, Parents, Committer, Encoding, Headers};
+ghost use Rattle.gx_object.specs.CommitSpelling.{CommitText, SpellsCommit};
+ghost use Rattle.gx_object.specs.CommitLines.{IsNotBehind, IsNoFold};
+ghost use Rattle.gx_object.specs.CommitItems.{Stuck, ItemAt, IsMessage, EndsHeader, Given, Left, NextItem, item_of, items_of, items_left};
+
+use crate::commit::ExtraHeader;
+use crate::commit::decode::bad_line;
+use crate::commit::lines::{header, id_line, id_of, identity_line, is_encoding, message};
+use crate::{DecodeError, SignatureRef};
+use bstr::BStr;
+use gx_hash::{HashKind, ObjectId};
+
+/// A part of a commit.
+#[derive(Clone, Copy, Debug)]
+pub enum CommitToken<'a> {
+    Tree { id: ObjectId },
+    Parent { id: ObjectId },
+    Author { signature: SignatureRef<'a> },
+    Committer { signature: SignatureRef<'a> },
+    Encoding(BStr<'a>),
+    ExtraHeader(ExtraHeader<'a>),
+    Message(BStr<'a>),
+}
+
+/// What comes next in a commit: its tree, a parent or the author, the committer, the encoding or what follows it, a further header or the message, nothing.
+#[derive(Clone, Copy, Debug, PartialEq, Eq)]
+pub(crate) enum Stage {
+    Tree,
+    Parents,
+    Committer,
+    Encoding,
+    Headers,
+    End,
+}
+
+// A part, what stands behind it, and what comes next there.
+type Step<'a> = (CommitToken<'a>, &'a [u8], Stage);
+
+fn tree_item(bytes: &[u8], hash: HashKind) -> Option<Step<'_>>
+    ensures { MatchOption result (Stuck hash Tree bytes.now) (λ p. ItemAt hash Tree bytes.now (item_of p.0) p.1.now p.2) }
+{
+    let (text, rest) = id_line(bytes, b"tree ", hash)?;
+    let id = id_of(text.as_bytes(), hash);
+    Some((CommitToken::Tree { id }, rest, Stage::Parents))
+}
+
+fn parent_or_author(bytes: &[u8], hash: HashKind) -> Option<Step<'_>>
+    ensures { MatchOption result (Stuck hash Parents bytes.now) (λ p. ItemAt hash Parents bytes.now (item_of p.0) p.1.now p.2) }
+{
+    if let Some((text, rest)) = id_line(bytes, b"parent ", hash) {
+        let id = id_of(text.as_bytes(), hash);
+        return Some((CommitToken::Parent { id }, rest, Stage::Parents));
+    }
+    let (signature, rest) = identity_line(bytes, b"author ")?;
+    Some((CommitToken::Author { signature }, rest, Stage::Committer))
+}
+
+fn committer_item(bytes: &[u8]) -> Option<Step<'_>>
+    ensures { (hash : HashKind) → MatchOption result (Stuck hash Committer bytes.now) (λ p. ItemAt hash Committer bytes.now (item_of p.0) p.1.now p.2) }
+{
+    let (signature, rest) = identity_line(bytes, b"committer ")?;
+    Some((CommitToken::Committer { signature }, rest, Stage::Encoding))
+}
+
+fn message_item(bytes: &[u8]) -> Option<Step<'_>>
+    ensures { MatchOption result (IsNotBehind (10 ∷ []) bytes.now) (λ p. IsMessage bytes.now (item_of p.0) p.1.now p.2) }
+{
+    let text = message(bytes)?;
+    Some((CommitToken::Message(text), b"", Stage::End))
+}
+
+fn first_header_or_message(bytes: &[u8]) -> Option<Step<'_>>
+    ensures { (hash : HashKind) → MatchOption result (Stuck hash Encoding bytes.now) (λ p. ItemAt hash Encoding bytes.now (item_of p.0) p.1.now p.2) }
+{
+    let Some((header, rest)) = header(bytes) else {
+        return message_item(bytes);
+    };
+    if is_encoding(&header) {
+        return Some((CommitToken::Encoding(header.raw), rest, Stage::Headers));
+    }
+    Some((CommitToken::ExtraHeader(header), rest, Stage::Headers))
+}
+
+fn header_or_message(bytes: &[u8]) -> Option<Step<'_>>
+    ensures { (hash : HashKind) → MatchOption result (IsNoFold bytes.now → Stuck hash Headers bytes.now) (λ p. ItemAt hash Headers bytes.now (item_of p.0) p.1.now p.2) }
+{
+    let Some((header, rest)) = header(bytes) else {
+        return message_item(bytes);
+    };
+    Some((CommitToken::ExtraHeader(header), rest, Stage::Headers))
+}
+
+fn next_item(bytes: &[u8], stage: Stage, hash: HashKind) -> Option<Step<'_>>
+    ensures { MatchOption result (EndsHeader stage bytes.now → Stuck hash stage bytes.now) (λ p. ItemAt hash stage bytes.now (item_of p.0) p.1.now p.2) }
+{
+    match stage {
+        Stage::Tree => tree_item(bytes, hash),
+        Stage::Parents => parent_or_author(bytes, hash),
+        Stage::Committer => committer_item(bytes),
+        Stage::Encoding => first_header_or_message(bytes),
+        Stage::Headers => header_or_message(bytes),
+        Stage::End => None,
+    }
+}
+
+/// Gives the parts of a commit without taking memory. After an error it ends.
+#[derive(Clone, Copy, Debug)]
+pub struct CommitRefIter<'a> {
+    pub(crate) bytes: &'a [u8],
+    rest: &'a [u8],
+    stage: Stage,
+    pub(crate) hash: HashKind,
+}
+
+impl<'a> CommitRefIter<'a> {
+    /// The parts of the commit that the bytes spell, in a repository of this kind.
+    pub fn from_bytes(bytes: &'a [u8], hash: HashKind) -> CommitRefIter<'a>
+        ensures bytes { (result.bytes.now ≡ bytes.now) × (result.hash ≡ hash) }
+        ensures commit { (c : CommitText) → SpellsCommit hash bytes.now c → Left result (items_of c) }
+        ensures given { Given result [] }
+    {
+        CommitRefIter {
+            bytes,
+            rest: bytes,
+            stage: Stage::Tree,
+            hash,
+        }
+    }
+}
+
+impl<'a> Iterator for CommitRefIter<'a> {
+    type Item = Result<CommitToken<'a>, DecodeError>;
+
+    ghost next_gives = { NextItem };
+
+    ghost remaining = { λ it. at_most (items_left it) };
+
+    fn next(&mut self) -> Option<Result<CommitToken<'a>, DecodeError>> {
+        if let Stage::End = self.stage {
+            return None;
+        }
+        match next_item(self.rest, self.stage, self.hash) {
+            Some((token, rest, stage)) => {
+                self.rest = rest;
+                self.stage = stage;
+                Some(Ok(token))
+            }
+            None => {
+                self.stage = Stage::End;
+                Some(Err(bad_line(self.bytes, self.rest)))
+            }
+        }
+    }
+}

@@ -1,0 +1,23 @@
+mod decode;
+mod lines;
+#[cfg(test)]
+mod tests;
+mod write;
+
+use crate::{Kind, Signature};
+pub use decode::TagRef;
+use gx_hash::{Bytes, ObjectId};
+
+/// An annotated tag: a name for an object.
+#[derive(Debug, Drop)]
+pub struct Tag {
+    pub target: ObjectId,
+    /// The kind of the target.
+    pub target_kind: Kind,
+    /// The tag's name, without `refs/tags/`.
+    pub name: Bytes,
+    pub tagger: Option<Signature>,
+    pub message: Bytes,
+    /// The signature from its first line on, which is written behind the message as it is.
+    pub signature: Option<Bytes>,
+}

@@ -1,0 +1,127 @@
+//! What the libraries say of names and objects, for the checks and the benches of this repository.
+#![tactic(auto)]
+
+mod names;
+mod objects;
+
+use gx_hash::{HashKind, NoMemory};
+use objects::ProbeError;
+use std::alloc::Global;
+use std::env;
+use std::io::{self, ErrorKind, Read, Write};
+use std::process::ExitCode;
+
+const USAGE: &str = "usage: gx_probe names | (tree | commit | entries) (sha1 | sha256) < INPUT
+
+  names    judges each line: `full`, `partial` or `no`, as it is a name of a reference
+  tree     reads a tree, and writes it again
+  commit   reads a commit, and writes it again
+  entries  counts the entries of a tree
+
+status  0  done
+        1  the input is no such object; standard error hears from which byte on
+        2  the words are not as above
+        3  reading or writing failed, or memory ran out
+";
+
+const NO_OBJECT: u8 = 1;
+
+const BAD_WORDS: u8 = 2;
+
+const FAILED: u8 = 3;
+
+/// What is asked of the input.
+#[derive(Clone, Copy)]
+enum Job {
+    Names,
+    Tree(HashKind),
+    Commit(HashKind),
+    Entries(HashKind),
+}
+
+fn main(rt: HostRuntime) -> ExitCode {
+    ExitCode::from(status_of(&rt))
+}
+
+fn status_of(rt: &HostRuntime) -> u8 {
+    match job_of(rt) {
+        Ok(Some(job)) => done(rt, job),
+        Ok(None) => {
+            let _heard = eprint!(rt; "{USAGE}");
+            BAD_WORDS
+        }
+        Err(_) => FAILED,
+    }
+}
+
+/// The job that the words after the program's name ask for.
+fn job_of(rt: &HostRuntime) -> io::Result<Option<Job>> {
+    let mut words = Vec::new(rt.alloc());
+    for word in env::args(rt)?.skip(1) {
+        words.push(word)?;
+    }
+    Ok(read_words(&words))
+}
+
+fn read_words(words: &[String]) -> Option<Job> {
+    match words {
+        [job] if job.as_str() == "names" => Some(Job::Names),
+        [job, kind] => read_job(job.as_str(), read_kind(kind.as_str())?),
+        _ => None,
+    }
+}
+
+fn read_job(job: &str, hash: HashKind) -> Option<Job> {
+    match job {
+        "tree" => Some(Job::Tree(hash)),
+        "commit" => Some(Job::Commit(hash)),
+        "entries" => Some(Job::Entries(hash)),
+        _ => None,
+    }
+}
+
+fn read_kind(kind: &str) -> Option<HashKind> {
+    match kind {
+        "sha1" => Some(HashKind::Sha1),
+        "sha256" => Some(HashKind::Sha256),
+        _ => None,
+    }
+}
+
+/// Does the job on what standard input holds, and says how that went.
+fn done(rt: &HostRuntime, job: Job) -> u8 {
+    let outcome = match read_input(rt) {
+        Ok(input) => answer(rt.alloc(), job, &input),
+        Err(_) => return FAILED,
+    };
+    match outcome {
+        Ok(output) => written(rt, &output),
+        Err(ProbeError::Decode { at }) => {
+            let _heard = eprintln!(rt; "no such object from byte {at} on");
+            NO_OBJECT
+        }
+        Err(_) => FAILED,
+    }
+}
+
+fn read_input(rt: &HostRuntime) -> io::Result<Vec<u8>> {
+    let mut input = Vec::new(rt.alloc());
+    rt.reader().read_to_end(&mut input)?;
+    Ok(input)
+}
+
+fn written(rt: &HostRuntime, output: &[u8]) -> u8 {
+    match io::writer(rt).write_all(output) {
+        Ok(()) => 0,
+        Err(_) => FAILED,
+    }
+}
+
+fn answer(alloc: Global, job: Job, input: &[u8]) -> Result<Vec<u8>, ProbeError> {
+    match job {
+        Job::Names => Ok(names::judge(alloc, input)?),
+        Job::Tree(hash) => objects::rewrite_tree(alloc, input, hash),
+        Job::Commit(hash) => objects::rewrite_commit(alloc, input, hash),
+        Job::Entries(hash) => objects::count_entries(alloc, input, hash),
+    }
+}

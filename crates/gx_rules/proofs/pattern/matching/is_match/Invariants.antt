@@ -1,0 +1,15 @@
+use Rattle.std.proofs.Common.{length}
+use Rattle.gx_rules.specs.Pattern.{IsMatch}
+use Rattle.gx_rules.specs.PatternReading.{IsAlive, IsSound, IsWithin, steps_left}
+use Rattle.gx_rules.proofs.pattern.matching.is_match.Given as goal
+
+abbrev pub invariant-loop-next : goal.invariant-loop-next
+invariant-loop-next l = record {
+  sound : IsSound l.walk;
+  onward : IsMatch l.fn.pattern l.fn.name → IsAlive l.walk;
+  back : IsAlive l.walk → IsMatch l.fn.pattern l.fn.name;
+  within : IsWithin (length l.fn.pattern) l.walk;
+}
+
+abbrev pub decreases-loop-next : goal.decreases-loop-next
+decreases-loop-next l = steps_left (length l.fn.pattern) l.walk

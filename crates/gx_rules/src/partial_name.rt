@@ -1,0 +1,136 @@
+ghost use Rattle.std.specs.Prelude.{◌≡◌, ◌≢◌, ◌⊎◌, IfOk, MatchResult};
+ghost use Rattle.bstr.specs.BStr.{bstr_bytes};
+ghost use Rattle.gx_rules.specs.Name.{IsPartialName, IsFirstBroken};
+
+use crate::NameError;
+use crate::name_rules::check_partial_name;
+use bstr::BStr;
+use gx_hash::{Bytes, NoMemory};
+use std::alloc::{AllocError, Global};
+use std::cmp::Ordering;
+use std::marker::Model;
+
+/// What people write for the name of a reference, as `main` for `refs/heads/main`: a full name without the
+/// directories in front. Each full name is a partial name too. Names are ordered by their bytes.
+#[derive(Debug, Drop)]
+pub struct PartialName {
+    bytes: Bytes,
+}
+
+impl Model for PartialName {
+    ghost use Rattle.std.specs.Prelude.{List, ℕ};
+
+    ghost Value = { List ℕ };
+
+    ghost view = { λ name. name.bytes };
+}
+
+impl PartialName {
+    /// The name, if it is a partial one. The error tells the first rule that it breaks.
+    pub fn new(alloc: Global, name: &[u8]) -> Result<PartialName, NameError>
+        ensures { MatchResult result
+            (λ partial. (partial ≡ name.now) × IsPartialName name.now)
+            (λ error. (error ≡ NameError.NoMemory) ⊎ (IsFirstBroken name.now error × (error ≢ NameError.SomeLowercase))) }
+    {
+        check_partial_name(name)?;
+        Ok(PartialName {
+            bytes: Bytes::from_slice(alloc, name)?,
+        })
+    }
+
+    /// A name that was tested before, as a full one.
+    pub(crate) fn new_unchecked(bytes: Bytes) -> PartialName
+        ensures { result ≡ bytes }
+    {
+        PartialName { bytes }
+    }
+
+    pub fn as_slice(&self) -> &[u8]
+        ensures { result.now ≡ self.now }
+    {
+        self.bytes.as_slice()
+    }
+
+    /// The bytes as text by convention, to be printed: bytes that are no UTF-8 show as U+FFFD.
+    pub fn as_bstr(&self) -> BStr<'_>
+        ensures { bstr_bytes result ≡ self.now }
+    {
+        BStr::new(self.as_slice())
+    }
+
+    pub fn try_clone(&self) -> Result<PartialName, NoMemory>
+        ensures { IfOk result (λ copy. copy ≡ self.now) }
+    {
+        Ok(PartialName {
+            bytes: self.bytes.try_clone()?,
+        })
+    }
+}
+
+impl Clone for PartialName {
+    ghost is_clone = { λ name copy. copy ≡ name };
+
+    fn clone(&self) -> Result<PartialName, AllocError> {
+        Ok(PartialName {
+            bytes: self.bytes.clone()?,
+        })
+    }
+}
+
+impl PartialEq for PartialName {
+    ghost use Rattle.std.specs.Prelude.{nat_eq};
+    ghost use Rattle.std.specs.Cmp.Lexicographic.{pointwise, nat_list_eq_equiv};
+    ghost use Rattle.std.specs.Cmp.{partial_equiv_from_equiv};
+
+    ghost eq = { pointwise nat_eq };
+
+    ghost laws = { partial_equiv_from_equiv nat_list_eq_equiv };
+
+    fn eq(&self, other: &PartialName) -> bool {
+        self.as_slice() == other.as_slice()
+    }
+}
+
+impl Eq for PartialName {
+    ghost use Rattle.std.specs.Cmp.Lexicographic.{nat_list_eq_equiv};
+
+    ghost laws = { nat_list_eq_equiv };
+}
+
+impl Ord for PartialName {
+    ghost use Rattle.std.specs.Ordering.{nat_cmp};
+    ghost use Rattle.std.specs.Cmp.Lexicographic.{slice_cmp, nat_list_cmp_total};
+    ghost use Rattle.std.proofs.Common.{rules};
+    ghost use Rattle.std.specs.Cmp.Rules.{comparing};
+
+    ghost cmp = { slice_cmp nat_cmp };
+
+    ghost total = { nat_list_cmp_total };
+
+    ghost matches_partial_cmp = { Prim.search (comparing, rules) };
+
+    ghost matches_eq = { Prim.search (comparing, rules) };
+
+    fn cmp(&self, other: &PartialName) -> Ordering {
+        self.as_slice().cmp(other.as_slice())
+    }
+}
+
+impl PartialOrd for PartialName {
+    ghost use Rattle.std.specs.Cmp.Lexicographic.{slice_cmp};
+    ghost use Rattle.std.specs.Ordering.{as_partial_cmp, nat_cmp};
+    ghost use Rattle.std.specs.Cmp.{partial_order_from_own_ties};
+    ghost use Rattle.std.proofs.Common.{rules};
+    ghost use Rattle.std.specs.Cmp.Rules.{comparing};
+
+    ghost partial_cmp = { as_partial_cmp (slice_cmp nat_cmp) };
+
+    ghost laws = { partial_order_from_own_ties (Prim.search (comparing, rules)) (Prim.search (comparing, rules)) };
+
+    fn partial_cmp(&self, other: &PartialName) -> Option<Ordering> {
+        Some(self.cmp(other))
+    }
+}
+
+#[cfg(test)]
+mod tests;
