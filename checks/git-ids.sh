@@ -4,16 +4,8 @@
 set -uo pipefail
 . "$(dirname -- "$(readlink -f -- "${BASH_SOURCE[0]}")")/lib.sh"
 
-if ! command -v git >/dev/null; then
-    skips "git is not there, so no id is compared with Git's"
-    report
-    exit
-fi
-
-# No settings of the machine or of its user count.
-export GIT_CONFIG_GLOBAL=/dev/null GIT_CONFIG_NOSYSTEM=1
+needs_git "no id is compared with Git's"
 export GIT_DIR=$scratch/git
-unset GIT_WORK_TREE GIT_INDEX_FILE GIT_OBJECT_DIRECTORY GIT_DEFAULT_HASH
 git init -q --bare "$GIT_DIR" || exit 1
 
 # entry NAME <BYTES: the line of a file for git mktree.

@@ -46,6 +46,18 @@ runs() {
     same "$name prints what it must" "$wanted" "$scratch/printed"
 }
 
+# needs_git WHAT: ends the file of checks where there is no Git, saying what is left out. Else no settings of the machine
+# or of its user count any more.
+needs_git() {
+    if ! command -v git >/dev/null; then
+        skips "git is not there, so $1"
+        report
+        exit
+    fi
+    export GIT_CONFIG_GLOBAL=/dev/null GIT_CONFIG_NOSYSTEM=1
+    unset GIT_WORK_TREE GIT_INDEX_FILE GIT_OBJECT_DIRECTORY GIT_DEFAULT_HASH
+}
+
 # Runs the program that asks the libraries.
 probe() {
     build gx_probe names && "$top/crates/gx_probe/out/gx_probe" "$@"

@@ -4,11 +4,7 @@
 set -uo pipefail
 . "$(dirname -- "$(readlink -f -- "${BASH_SOURCE[0]}")")/lib.sh"
 
-if ! command -v git >/dev/null; then
-    skips "git is not there, so no name is judged by it"
-    report
-    exit
-fi
+needs_git "no name is judged by it"
 
 # Names of two or three parts, and each byte that no name may hold at three places.
 names() {

@@ -3,15 +3,7 @@
 set -uo pipefail
 . "$(dirname -- "$(readlink -f -- "${BASH_SOURCE[0]}")")/lib.sh"
 
-if ! command -v git >/dev/null; then
-    skips "git is not there, so no object of its making is read"
-    report
-    exit
-fi
-
-# No settings of the machine or of its user count.
-export GIT_CONFIG_GLOBAL=/dev/null GIT_CONFIG_NOSYSTEM=1
-unset GIT_WORK_TREE GIT_INDEX_FILE GIT_OBJECT_DIRECTORY GIT_DEFAULT_HASH
+needs_git "no object of its making is read"
 export GIT_AUTHOR_NAME='Zoë Example' GIT_AUTHOR_EMAIL=zoe@example.org GIT_AUTHOR_DATE='@1660797906 +0800'
 export GIT_COMMITTER_NAME='Sam Example' GIT_COMMITTER_EMAIL=sam@example.org GIT_COMMITTER_DATE='@1700000000 -0330'
 
