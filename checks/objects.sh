@@ -1,5 +1,5 @@
 #!/usr/bin/env bash
-# Trees and commits that Git's own commands make are read, and written again to the same bytes. Both kinds of ids.
+# Trees, commits and tags that Git's own commands make or take are read, and written again to the same bytes. Both kinds of ids.
 set -uo pipefail
 . "$(dirname -- "$(readlink -f -- "${BASH_SOURCE[0]}")")/lib.sh"
 
@@ -53,7 +53,33 @@ signed() {
         git hash-object -t commit -w --stdin
 }
 
+# tag_with KIND ID: `git mktag` takes the tag of that object with the text on standard input as its message.
+tag_with() {
+    {
+        printf 'object %s\ntype %s\ntag v1.0\ntagger Zoë Example <zoe@example.org> 1660797906 +0800\n\n' "$2" "$1"
+        cat
+    } | git mktag
+}
+
+pgp=$'-----BEGIN PGP SIGNATURE-----\n\nabc\n-----END PGP SIGNATURE-----\n'
+ssh=$'-----BEGIN SSH SIGNATURE-----\nabc\n-----END SSH SIGNATURE-----\n'
+
+tags_of() {
+    local tree root tag
+    export GIT_DIR=$scratch/$1
+    tree=$(git mktree </dev/null)
+    root=$(git commit-tree "$tree" <<<'root')
+    tag=$(tag_with commit "$root" <<<$'title\n\nbody')
+    again tag "$1" "$tag" "a tag of a commit"
+    again tag "$1" "$(tag_with tag "$tag" <<<'of a tag')" "a tag of a tag"
+    again tag "$1" "$(tag_with tree "$tree" </dev/null)" "a tag without a message"
+    again tag "$1" "$(printf 'signed\n%s' "$pgp" | tag_with commit "$root")" "a tag with a signature of OpenPGP"
+    again tag "$1" "$(printf 'signed\n%s%s' "$pgp" "$ssh" | tag_with commit "$root")" "a tag with two signatures"
+}
+
 objects_of sha1
 objects_of sha256
+tags_of sha1
+tags_of sha256
 
 report

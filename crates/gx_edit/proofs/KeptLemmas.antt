@@ -34,7 +34,7 @@ front_plain : (b : ℕ) (p : Path) → (b ≡ 47 → ⊥) → AllByRecursion NoS
 front_plain b [] other plain = (no_slash_more b [] other (λ w. absurd (omega (arith, w.1))), tt)
 front_plain b (n ∷ p) other plain = (no_slash_more b n other plain.0, plain.1)
 
-components_plain : (bs : List ℕ) → AllByRecursion NoSlash (components bs)
+pub components_plain : (bs : List ℕ) → AllByRecursion NoSlash (components bs)
 components_plain [] = ((λ w. absurd (omega (arith, w.1))), tt)
 components_plain (b ∷ bs) = go (b == 47) refl (components_plain bs)
   where

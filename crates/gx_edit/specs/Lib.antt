@@ -1,6 +1,14 @@
-pub mod Path
-pub mod PathMap
 pub mod CanonicalTree
+pub mod CheckPlain
+pub mod Checking
+pub mod OpenTree
+pub mod Path
 pub mod PathList
+pub mod PathMap
 pub mod PathTexts
 pub mod Plain
+pub mod Planning
+pub mod ReadMapCauses
+pub mod Refusals
+pub mod SharedIds
+pub mod WritePlain

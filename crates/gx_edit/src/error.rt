@@ -4,7 +4,7 @@ ghost use Rattle.gx_edit.specs.declared.error.EditError.TheVariants.{NoMemory as
 use gx_hash::{Bytes, NoMemory, ObjectId};
 use gx_object::{EntryKind, Field, Kind};
 use gx_rules::ComponentError;
-use gx_store::What;
+use gx_store::{StoreError, What};
 use std::alloc::{AllocError, AllocFailed};
 use thiserror::Error;
 
@@ -74,5 +74,18 @@ impl<T: Drop> From<AllocFailed<T>> for EditError {
 
     fn from(_: AllocFailed<T>) -> EditError {
         EditError::NoMemory
+    }
+}
+
+impl From<StoreError> for EditError {
+    ghost use Rattle.gx_edit.specs.Refusals.{handed_on};
+
+    ghost from_gives = { λ refusal e. e ≡ handed_on refusal };
+
+    fn from(refusal: StoreError) -> EditError {
+        match refusal {
+            StoreError::NoMemory => EditError::NoMemory,
+            StoreError::Fault { what } => EditError::Store { what },
+        }
     }
 }

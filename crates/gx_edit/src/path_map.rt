@@ -41,6 +41,7 @@ impl PathMap {
     ghost use Rattle.gx_edit.specs.Path.{Path, components};
     ghost use Rattle.gx_edit.specs.PathMap.{put, dropped};
     ghost use Rattle.gx_edit.specs.PathList.{map_of, leaf_of, has_empty_name, IsPathMap, IsRising, Refused};
+    ghost use Rattle.gx_edit.specs.PathTexts.{rows_of};
 
     /// The map of the empty tree.
     pub fn new(alloc: Global) -> PathMap
@@ -50,6 +51,14 @@ impl PathMap {
             leaves: BTreeMap::new(alloc),
             alloc,
         }
+    }
+
+    /// The map with these leaves.
+    pub(crate) fn from_leaves(alloc: Global, leaves: BTreeMap<Vec<u8>, Leaf>) -> PathMap
+        requires { IsPathMap (map_of (rows_of leaves)) }
+        ensures { result ≡ rows_of leaves }
+    {
+        PathMap { leaves, alloc }
     }
 
     /// How many paths have a leaf.

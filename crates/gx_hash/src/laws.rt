@@ -1,14 +1,15 @@
 //! What holds of all ids. A proof above has each law by calling its function, which does nothing.
-ghost use Rattle.std.specs.Prelude.{◌≡◌, ◌↔◌, IsTrue, Ok};
+ghost use Rattle.std.specs.Prelude.{◌≡◌, ◌↔◌, ℕ, List, IsTrue, Ok};
 ghost use Rattle.std.specs.Cmp.{IsTotalOrder};
 ghost use Rattle.std.specs.FinMap.{IsAntisymmetric};
 ghost use Rattle.hex.specs.Hex.{IsBytes};
+ghost use Rattle.gx_hash.specs.declared.kind.HashKind.{HashKind};
 ghost use Rattle.gx_hash.specs.declared.oid.ObjectId.{ObjectId};
 ghost use Rattle.gx_hash.specs.contracts.oid.ObjectIdPartialEq.TheImpl as derived_eq;
 ghost use Rattle.gx_hash.specs.contracts.oid.ObjectIdOrd.TheImpl as derived_ord;
 ghost use Rattle.gx_hash.specs.contracts.oid.ObjectIdHash.TheImpl as derived_hash;
 ghost use Rattle.gx_hash.specs.HashKind.{kind_of};
-ghost use Rattle.gx_hash.specs.ObjectId.{bytes_of, hex_of, id_cmp, id_hash_input, id_from_bytes, id_from_hex};
+ghost use Rattle.gx_hash.specs.ObjectId.{object_id, bytes_of, hex_of, id_cmp, id_hash_input, id_from_bytes, id_from_hex};
 
 use crate::ObjectId;
 
@@ -41,6 +42,11 @@ pub fn spellings_read_back(id: &ObjectId)
 {
     are_bytes(id.as_bytes());
 }
+
+/// An object's id has the bytes of an id of its kind, so these read back as the id.
+pub fn object_id_is_whole()
+    ensures { (hash : HashKind) (kind_name bytes : List ℕ) → id_from_bytes hash (bytes_of (object_id hash kind_name bytes)) ≡ Some (object_id hash kind_name bytes) }
+{}
 
 fn are_bytes(bytes: &[u8])
     ensures { IsBytes bytes.now }

@@ -5,8 +5,7 @@ use Rattle.std.proofs.lemmas.Bool.Decides.{eqb_tells}
 use Rattle.std.proofs.lemmas.List.{append-nil, length-replicate}
 use Rattle.gx_hash.specs.HashKind.{len_in_bytes}
 use Rattle.gx_hash.specs.declared.kind.HashKind.{HashKind}
-use Rattle.gx_object.specs.declared.commit.iter.Stage.{Stage}
-use Rattle.gx_object.specs.declared.commit.iter.Stage.TheVariants.{Tree, Parents, Committer, Encoding, Headers, End}
+use Rattle.gx_object.specs.CommitNext.{Next, Tree, Parents, Committer, Encoding, Headers, End}
 use Rattle.gx_object.specs.declared.decode.DecodeError.{DecodeError}
 use Rattle.gx_object.specs.declared.decode.DecodeError.TheVariants.{Decode}
 use Rattle.gx_object.specs.Commit.{encoding_line}
@@ -26,12 +25,12 @@ abbrev pub begins_parent : List ℕ → Bool
 begins_parent [] = false
 begins_parent (b ∷ bs) = b == 112
 
-abbrev pub unless_empty : List ℕ → Stage
+abbrev pub unless_empty : List ℕ → Next
 unless_empty [] = End
 unless_empty (b ∷ bs) = Headers
 
 -- what comes behind the line
-abbrev pub behind : Stage → List ℕ → Stage
+abbrev pub behind : Next → List ℕ → Next
 behind Tree line = Parents
 behind Parents line = cond (begins_parent line) Parents Committer
 behind Committer line = Encoding
@@ -40,11 +39,11 @@ behind Headers line = unless_empty line
 behind End line = End
 
 -- the lines lead from one stage to another
-abbrev pub AllowsAll : HashKind → Stage → List (List ℕ) → Stage → Type 0
+abbrev pub AllowsAll : HashKind → Next → List (List ℕ) → Next → Type 0
 AllowsAll hash s [] t = s ≡ t
 AllowsAll hash s (l ∷ ls) t = IsOneLine l × (Allows hash s l × AllowsAll hash (behind s l) ls t)
 
-pub record Leads (hash : HashKind) (s : Stage) (text : List ℕ) (t : Stage) : Type 0 where
+pub record Leads (hash : HashKind) (s : Next) (text : List ℕ) (t : Next) : Type 0 where
   pub lines : List (List ℕ)
   pub is : text ≡ joined lines []
   pub all : AllowsAll hash s lines t
@@ -57,21 +56,21 @@ joined_both : (as' bs : List (List ℕ)) (x : List ℕ) → joined (as' ++ bs) x
 joined_both [] bs x = refl
 joined_both (l ∷ ls) bs x = ap (λ r. l ++ 10 ∷ r) (joined_both ls bs x)
 
-allows_both : (hash : HashKind) (s : Stage) (as' bs : List (List ℕ)) (t u : Stage) → AllowsAll hash s as' t → AllowsAll hash t bs u → AllowsAll hash s (as' ++ bs) u
+allows_both : (hash : HashKind) (s : Next) (as' bs : List (List ℕ)) (t u : Next) → AllowsAll hash s as' t → AllowsAll hash t bs u → AllowsAll hash s (as' ++ bs) u
 allows_both hash s [] bs t u p q = subst (λ r. AllowsAll hash r bs u) (sym p) q
 allows_both hash s (l ∷ ls) bs t u p q = (p.0, (p.1.0, allows_both hash (behind s l) ls bs t u p.1.1 q))
 
-pub leads_then : (hash : HashKind) (s t u : Stage) (a b : List ℕ) → Leads hash s a t → Leads hash t b u → Leads hash s (a ++ b) u
+pub leads_then : (hash : HashKind) (s t u : Next) (a b : List ℕ) → Leads hash s a t → Leads hash t b u → Leads hash s (a ++ b) u
 leads_then hash s t u a b p q = record {
   lines = p.lines ++ q.lines;
   is = ap (λ l. l ++ b) p.is ∙ joined-append p.lines [] b ∙ ap (joined p.lines) q.is ∙ sym (joined_both p.lines q.lines []);
   all = allows_both hash s p.lines q.lines t u p.all q.all;
 }
 
-pub leads_none : (hash : HashKind) (s : Stage) → Leads hash s [] s
+pub leads_none : (hash : HashKind) (s : Next) → Leads hash s [] s
 leads_none hash s = record { lines = []; is = refl; all = refl }
 
-pub leads_line : (hash : HashKind) (s t : Stage) (line : List ℕ) → IsOneLine line → Allows hash s line → behind s line ≡ t → Leads hash s (line ++ 10 ∷ []) t
+pub leads_line : (hash : HashKind) (s t : Next) (line : List ℕ) → IsOneLine line → Allows hash s line → behind s line ≡ t → Leads hash s (line ++ 10 ∷ []) t
 leads_line hash s t line p q e = record { lines = line ∷ []; is = refl; all = (p, (q, e)) }
 
 -- One place.
@@ -79,11 +78,11 @@ same_first : (a b x y : List ℕ) → IsOneLine a → IsOneLine b → a ++ 10 �
 same_first a b x y p q e = same_split 10 a b x y p q e
 
 -- a stage that is stuck lets no lines through
-stuck_here : (hash : HashKind) (t : Stage) (rest : List ℕ) → (t ≢ End) → Stuck hash t rest → (lines : List (List ℕ)) (message : List ℕ) → AllowsAll hash t lines End → rest ≡ joined lines message → ⊥
+stuck_here : (hash : HashKind) (t : Next) (rest : List ℕ) → (t ≢ End) → Stuck hash t rest → (lines : List (List ℕ)) (message : List ℕ) → AllowsAll hash t lines End → rest ≡ joined lines message → ⊥
 stuck_here hash t rest other stuck [] message all e = other all
 stuck_here hash t rest other stuck (l ∷ ls) message all e = stuck l (joined ls message) (record { is = e; one = all.0 }) all.1.0
 
-none_through : (hash : HashKind) (s t : Stage) (front : List (List ℕ)) (rest : List ℕ) → AllowsAll hash s front t → t ≢ End → Stuck hash t rest
+none_through : (hash : HashKind) (s t : Next) (front : List (List ℕ)) (rest : List ℕ) → AllowsAll hash s front t → t ≢ End → Stuck hash t rest
     → (lines : List (List ℕ)) (message : List ℕ) → AllowsAll hash s lines End → joined front rest ≡ joined lines message → ⊥
 none_through hash s t [] rest p other stuck lines message all e = stuck_here hash t rest other stuck lines message (subst (λ r. AllowsAll hash r lines End) p all) e
 none_through hash s t (f ∷ fs) rest p other stuck [] message all e = let h : Allows hash End f = subst (λ r. Allows hash r f) all p.1.0 in h
@@ -92,7 +91,7 @@ none_through hash s t (f ∷ fs) rest p other stuck (l ∷ ls) message all e =
     none_through hash (behind s f) t fs rest p.1.1 other stuck ls message (subst (λ line. AllowsAll hash (behind s line) ls End) (sym r.0) all.1.1) r.1
 
 -- front' are the lines of another front
-no_longer : (hash : HashKind) (s t : Stage) (front : List (List ℕ)) (rest : List ℕ) → AllowsAll hash s front t → t ≢ End → Stuck hash t rest
+no_longer : (hash : HashKind) (s t : Next) (front : List (List ℕ)) (rest : List ℕ) → AllowsAll hash s front t → t ≢ End → Stuck hash t rest
     → (other : List (List ℕ)) (rest' : List ℕ) → AllByRecursion IsOneLine other → joined front rest ≡ joined other rest'
     → (lines : List (List ℕ)) (more message : List ℕ) → AllowsAll hash s lines End → joined other more ≡ joined lines message → length (joined other []) ≤ length (joined front [])
 no_longer hash s t front rest p end stuck [] rest' each e lines more message all f = omega arith
@@ -118,7 +117,7 @@ hex_open (b ∷ bs) p = ((λ e. elim p.0 [ inl h ↦ absurd (omega (arith, e, h.
 text_line_is : (word text : List ℕ) → text_line word text ≡ (word ++ text) ++ 10 ∷ []
 text_line_is word text = sym (append_assoc word text (10 ∷ []))
 
-leads_text : (hash : HashKind) (s t : Stage) (word text : List ℕ) → IsOneLine word → IsOneLine text → Allows hash s (word ++ text) → behind s (word ++ text) ≡ t → Leads hash s (text_line word text) t
+leads_text : (hash : HashKind) (s t : Next) (word text : List ℕ) → IsOneLine word → IsOneLine text → Allows hash s (word ++ text) → behind s (word ++ text) ≡ t → Leads hash s (text_line word text) t
 leads_text hash s t word text p q a e = subst (λ l. Leads hash s l t) (sym (text_line_is word text)) (leads_line hash s t (word ++ text) (without_append 10 word text p q) a e)
 
 pub tree_word : IsOneLine (codes "tree ")
@@ -155,7 +154,7 @@ leads_author hash line who p q = leads_text hash Parents Committer (codes "autho
 pub leads_committer : (hash : HashKind) (line : List ℕ) (who : IdentityText) → IsOneLine line → SpellsIdentity line who → Leads hash Committer (text_line (codes "committer ") line) Encoding
 leads_committer hash line who p q = leads_text hash Committer Encoding (codes "committer ") line committer_word p (line, who, q, refl) refl
 
-leads_value : (hash : HashKind) (s : Stage) (value front : List ℕ) → IsOneLine front → ((text : List ℕ) → Allows hash s (front ++ text)) → ((text : List ℕ) → behind s (front ++ text) ≡ Headers) → Leads hash s (front ++ (folded value ++ 10 ∷ [])) Headers
+leads_value : (hash : HashKind) (s : Next) (value front : List ℕ) → IsOneLine front → ((text : List ℕ) → Allows hash s (front ++ text)) → ((text : List ℕ) → behind s (front ++ text) ≡ Headers) → Leads hash s (front ++ (folded value ++ 10 ∷ [])) Headers
 leads_value hash s [] front p allows leads = leads_line hash s Headers front p (subst (Allows hash s) (append-nil front) (allows [])) (ap (behind s) (sym (append-nil front)) ∙ leads [])
 leads_value hash s (b ∷ bs) front p allows leads = elim (eqb_tells b 10) [
   | inl h ↦ rw h.0 (subst (λ l. Leads hash s l Headers) (append_assoc front (b ∷ []) (32 ∷ (folded bs ++ 10 ∷ [])) ∙ ap (λ n. front ++ n ∷ 32 ∷ (folded bs ++ 10 ∷ [])) h.1)
@@ -169,26 +168,26 @@ leads_value hash s (b ∷ bs) front p allows leads = elim (eqb_tells b 10) [
 ]
 
 -- headers stand behind the committer, or behind other headers
-abbrev pub IsLate : Stage → Type 0
+abbrev pub IsLate : Next → Type 0
 IsLate s = (s ≡ Encoding) ⊎ (s ≡ Headers)
 
-pub late_is_not_end : (s : Stage) → IsLate s → s ≢ End
+pub late_is_not_end : (s : Next) → IsLate s → s ≢ End
 late_is_not_end s (inl e) f = let h : Encoding ≡ End = sym e ∙ f in absurd (cc)
 late_is_not_end s (inr e) f = let h : Headers ≡ End = sym e ∙ f in absurd (cc)
 
-late_header : (hash : HashKind) (s : Stage) → IsLate s → (line : List ℕ) → IsHeaderLine line → Allows hash s line
+late_header : (hash : HashKind) (s : Next) → IsLate s → (line : List ℕ) → IsHeaderLine line → Allows hash s line
 late_header hash s (inl e) line p = let h : Allows hash Encoding line = inr p in subst (λ r. Allows hash r line) (sym e) h
 late_header hash s (inr e) line p = let h : Allows hash Headers line = inr (inl p) in subst (λ r. Allows hash r line) (sym e) h
 
-late_behind : (s : Stage) → IsLate s → (b : ℕ) (bs : List ℕ) → behind s (b ∷ bs) ≡ Headers
+late_behind : (s : Next) → IsLate s → (b : ℕ) (bs : List ℕ) → behind s (b ∷ bs) ≡ Headers
 late_behind s (inl e) b bs = ap (λ r. behind r (b ∷ bs)) e
 late_behind s (inr e) b bs = ap (λ r. behind r (b ∷ bs)) e
 
-late_named : (s : Stage) → IsLate s → (name text : List ℕ) → name ≢ [] → behind s (name ++ text) ≡ Headers
+late_named : (s : Next) → IsLate s → (name text : List ℕ) → name ≢ [] → behind s (name ++ text) ≡ Headers
 late_named s late [] text some = absurd (some refl)
 late_named s late (b ∷ bs) text some = late_behind s late b (bs ++ text)
 
-pub leads_header : (hash : HashKind) (s : Stage) (h : HeaderText) → IsLate s → IsHeader h → Leads hash s (raw_line h) Headers
+pub leads_header : (hash : HashKind) (s : Next) (h : HeaderText) → IsLate s → IsHeader h → Leads hash s (raw_line h) Headers
 leads_header hash s h late is =
     let front = h.name ++ 32 ∷ [] in
     let text_is : (text : List ℕ) → front ++ text ≡ h.name ++ 32 ∷ text = λ text. append_assoc h.name (32 ∷ []) text in
@@ -202,7 +201,7 @@ leads_headers hash [] p = leads_none hash Headers
 leads_headers hash (h ∷ hs) p = leads_then hash Headers Headers Headers (raw_line h) (flat_map raw_line hs) (leads_header hash Headers h (inr refl) p.0) (leads_headers hash hs p.1)
 
 -- the stage behind an encoding and headers
-abbrev pub late_stage : Option (List ℕ) → List HeaderText → Stage
+abbrev pub late_stage : Option (List ℕ) → List HeaderText → Next
 late_stage None [] = Encoding
 late_stage None (h ∷ hs) = Headers
 late_stage (Some text) hs = Headers
@@ -220,7 +219,7 @@ leads_late hash (Some text) hs e p =
     (leads_line hash Encoding Headers (codes "encoding " ++ text) (without_append 10 (codes "encoding ") text encoding_word e.1) (inr (codes "encoding", text, encoding_name, refl)) refl)
     (leads_headers hash hs p)
 
-late_end : (hash : HashKind) (s : Stage) → IsLate s → Leads hash s (10 ∷ []) End
+late_end : (hash : HashKind) (s : Next) → IsLate s → Leads hash s (10 ∷ []) End
 late_end hash s (inl e) = subst (λ r. Leads hash r (10 ∷ []) End) (sym e) (leads_line hash Encoding End [] tt (inl refl) refl)
 late_end hash s (inr e) = subst (λ r. Leads hash r (10 ∷ []) End) (sym e) (leads_line hash Headers End [] tt (inl refl) refl)
 
@@ -311,11 +310,11 @@ joined_whole (l ∷ ls) = elim (joined_whole ls) [
   | inr p ↦ inr (l ++ 10 ∷ p.0, ap (λ r. l ++ 10 ∷ r) p.1 ∙ sym (append_assoc l (10 ∷ p.0) (10 ∷ [])))
 ]
 
-lines_and_rest : (hash : HashKind) (s t : Stage) (front rest : List ℕ) (p : Leads hash s front t) → front ++ rest ≡ joined p.lines rest
+lines_and_rest : (hash : HashKind) (s t : Next) (front rest : List ℕ) (p : Leads hash s front t) → front ++ rest ≡ joined p.lines rest
 lines_and_rest hash s t front rest p = ap (λ l. l ++ rest) p.is ∙ joined-append p.lines [] rest
 
 -- Where bytes stop.
-pub refused : (hash : HashKind) (bytes front rest : List ℕ) (t : Stage) (at : ℕ) → bytes ≡ front ++ rest → Leads hash Tree front t → t ≢ End → Stuck hash t rest → BeginsCommit hash front → at ≡ length front → IsNoCommit hash bytes at
+pub refused : (hash : HashKind) (bytes front rest : List ℕ) (t : Next) (at : ℕ) → bytes ≡ front ++ rest → Leads hash Tree front t → t ≢ End → Stuck hash t rest → BeginsCommit hash front → at ≡ length front → IsNoCommit hash bytes at
 refused hash bytes front rest t at e p end stuck begins place = record {
   none = λ c s.
       let q = spelled_leads hash bytes c s in
@@ -434,7 +433,7 @@ begins_late hash tree parents author committer who whom encoding hs p q a b d e 
     begins hash tree parents author committer who whom encoding hs p q a b d e f g (late_text tree parents author committer encoding hs) (10 ∷ []) refl
 
 -- the place of a refusal, as it is counted from the end
-pub refused_at : (hash : HashKind) (bytes front rest : List ℕ) (t : Stage) (at : ℕ) (error : DecodeError) → bytes ≡ front ++ rest → Leads hash Tree front t → t ≢ End → Stuck hash t rest → BeginsCommit hash front
+pub refused_at : (hash : HashKind) (bytes front rest : List ℕ) (t : Next) (at : ℕ) (error : DecodeError) → bytes ≡ front ++ rest → Leads hash Tree front t → t ≢ End → Stuck hash t rest → BeginsCommit hash front
     → error ≡ Decode at → error ≡ Decode (length bytes - length rest) → IsNoCommit hash bytes at
 refused_at hash bytes front rest t at error e p end stuck begins is place =
     let same : at ≡ length bytes - length rest = cc in

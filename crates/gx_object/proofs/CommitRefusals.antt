@@ -4,7 +4,7 @@ use Rattle.std.specs.Result.{IsErrOf}
 use Rattle.std.specs.List.{flat_map}
 use Rattle.gx_hash.specs.declared.kind.HashKind.{HashKind}
 use Rattle.gx_object.specs.declared.commit.decode.CommitRef.{CommitRef}
-use Rattle.gx_object.specs.declared.commit.iter.Stage.TheVariants.{Tree, Parents, Committer}
+use Rattle.gx_object.specs.CommitNext.{Tree, Parents, Committer}
 use Rattle.gx_object.specs.declared.decode.DecodeError.{DecodeError}
 use Rattle.gx_object.specs.declared.decode.DecodeError.TheVariants.{Decode}
 use Rattle.gx_object.specs.Commit.{encoding_line}

@@ -14,7 +14,7 @@ use Rattle.gx_hash.specs.declared.kind.HashKind.{HashKind}
 use Rattle.gx_hash.specs.declared.kind.HashKind.TheVariants as hash_kind
 use Rattle.gx_object.specs.CommitSpelling.{IsLowerHexDigit, IsHexId}
 
-decimal_digit : (n : ℕ) → n < 10 → slice_index lower_digits n ≡ 48 + n
+pub decimal_digit : (n : ℕ) → n < 10 → slice_index lower_digits n ≡ 48 + n
 decimal_digit zero p = refl
 decimal_digit (suc zero) p = refl
 decimal_digit (suc (suc zero)) p = refl
@@ -27,7 +27,7 @@ decimal_digit (suc (suc (suc (suc (suc (suc (suc (suc zero)))))))) p = refl
 decimal_digit (suc (suc (suc (suc (suc (suc (suc (suc (suc zero))))))))) p = refl
 decimal_digit (suc (suc (suc (suc (suc (suc (suc (suc (suc (suc n)))))))))) p = absurd (omega arith)
 
-letter_digit : (n : ℕ) → n < 6 → slice_index lower_digits (10 + n) ≡ 97 + n
+pub letter_digit : (n : ℕ) → n < 6 → slice_index lower_digits (10 + n) ≡ 97 + n
 letter_digit zero p = refl
 letter_digit (suc zero) p = refl
 letter_digit (suc (suc zero)) p = refl

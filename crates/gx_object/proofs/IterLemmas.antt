@@ -4,16 +4,16 @@ use Rattle.std.specs.List.{flat_map, AllByRecursion}
 use Rattle.std.proofs.lemmas.List.{append-nil, map_push}
 use Rattle.gx_hash.specs.declared.kind.HashKind.{HashKind}
 use Rattle.gx_object.specs.declared.commit.iter.CommitToken.{CommitToken}
-use Rattle.gx_object.specs.declared.commit.iter.CommitRefIter.{CommitRefIter}
 use Rattle.gx_object.specs.declared.commit.iter.Stage.{Stage}
-use Rattle.gx_object.specs.declared.commit.iter.Stage.TheVariants.{Tree, Parents, Committer, Encoding, Headers, End}
+use Rattle.gx_object.specs.declared.commit.iter.Stage.TheVariants as stage
+use Rattle.gx_object.specs.CommitNext.{next_of, Next, Tree, Parents, Committer, Encoding, Headers, End, CommitPlace}
 use Rattle.gx_object.specs.declared.decode.DecodeError.{DecodeError}
 use Rattle.gx_object.specs.declared.decode.DecodeError.TheVariants.{Decode}
 use Rattle.gx_object.specs.Commit.{encoding_line}
 use Rattle.gx_object.specs.IdentitySpelling.{IdentityText}
 use Rattle.gx_object.specs.CommitSpelling.{IsHexId, HeaderText, IsHeader, HasEncoding, raw_line, text_line, BeginsCommit}
 use Rattle.gx_object.specs.CommitLines.{HasLine, IsHeaderLine, HasIdentityLine, HasHeader, IsNoFold}
-use Rattle.gx_object.specs.CommitItems.{Item, TreeId, ParentId, AuthorIs, CommitterIs, HeaderIs, MessageIs, encoding_items, HasIdLine, IsFirstItem, IsMessage, ItemAt, ReadsAll, Stuck, item_of, TreeFront, AuthorFront, CommitterFront, HeadersFront, tree_front, author_front, committer_front, headers_front, committer_items, FrontIs, EndsHeader, Given, Left, LeftBehind, IsRefusal, GivenBehind, NextItem, items_left_at}
+use Rattle.gx_object.specs.CommitItems.{Item, TreeId, ParentId, AuthorIs, CommitterIs, HeaderIs, MessageIs, encoding_items, HasIdLine, IsFirstItem, IsMessage, ItemAt, ReadsAll, Stuck, item_of, TreeFront, AuthorFront, CommitterFront, HeadersFront, tree_front, author_front, committer_front, headers_front, committer_items, FrontIs, EndsHeader, Given, Left, LeftBehind, IsRefusal, GivenBehind, HasKind, NextItem, items_left_at}
 use Rattle.gx_object.proofs.LineLemmas.{Without, without_append, raw_line_open, name_without_newline, name_without_space}
 use Rattle.gx_object.proofs.CommitParts.{all_push, flat_map_push}
 use Rattle.gx_object.proofs.CommitPlace.{Leads, leads_none, leads_to_author, leads_to_committer, leads_to_encoding, leads_to_message, begins_tree, begins_parents, begins_committer, begins_late, late_stage, late_text_is, late_text, refused_at, hex_open, tree_word, parent_word, author_word, committer_word}
@@ -26,7 +26,7 @@ header_length bytes h more p = omega (arith, ap length p.is, length-append (raw_
 line_length : (bytes word text more : List ℕ) → bytes ≡ text_line word text ++ more → length more < length bytes
 line_length bytes word text more e = omega (arith, ap length e, length-append (text_line word text) more, length-append word (text ++ 10 ∷ []), length-append text (10 ∷ []))
 
-most : (t : Stage) (n : ℕ) → items_left_at t n < n + 2
+most : (t : Next) (n : ℕ) → items_left_at t n < n + 2
 most Tree n = omega arith
 most Parents n = omega arith
 most Committer n = omega arith
@@ -34,7 +34,7 @@ most Encoding n = omega arith
 most Headers n = omega arith
 most End n = omega arith
 
-at_stage : (s : Stage) (m : ℕ) → s ≢ End → items_left_at s m ≡ m + 1
+at_stage : (s : Next) (m : ℕ) → s ≢ End → items_left_at s m ≡ m + 1
 at_stage Tree m e = refl
 at_stage Parents m e = refl
 at_stage Committer m e = refl
@@ -42,13 +42,13 @@ at_stage Encoding m e = refl
 at_stage Headers m e = refl
 at_stage End m e = absurd (e refl)
 
-fewer : (s t : Stage) (n m : ℕ) → s ≢ End → n < m → items_left_at t n < items_left_at s m
+fewer : (s t : Next) (n m : ℕ) → s ≢ End → n < m → items_left_at t n < items_left_at s m
 fewer s t n m e l = omega (arith, most t n, at_stage s m e, l)
 
-pub ended : (s t : Stage) (n m : ℕ) → s ≢ End → t ≡ End → items_left_at t n < items_left_at s m
+pub ended : (s t : Next) (n m : ℕ) → s ≢ End → t ≡ End → items_left_at t n < items_left_at s m
 ended s t n m e f = subst (λ u. items_left_at u n < items_left_at s m) (sym f) (omega (arith, at_stage s m e))
 
-pub item_shorter : (hash : HashKind) (s : Stage) (bytes : List ℕ) (i : Item) (more : List ℕ) (t : Stage) → ItemAt hash s bytes i more t → items_left_at t (length more) < items_left_at s (length bytes)
+pub item_shorter : (hash : HashKind) (s : Next) (bytes : List ℕ) (i : Item) (more : List ℕ) (t : Next) → ItemAt hash s bytes i more t → items_left_at t (length more) < items_left_at s (length bytes)
 item_shorter hash Tree bytes i more t p = fewer Tree t (length more) (length bytes) (λ e. cc) (line_length bytes (codes "tree ") p.1.0 more p.1.2.1)
 item_shorter hash Parents bytes i more t (inl p) = fewer Parents t (length more) (length bytes) (λ e. cc) (line_length bytes (codes "parent ") p.1.0 more p.1.2.1)
 item_shorter hash Parents bytes i more t (inr p) = fewer Parents t (length more) (length bytes) (λ e. cc) (line_length bytes (codes "author ") p.1.2.line more p.1.2.is)
@@ -82,10 +82,10 @@ no_header_line bytes h more p none =
     })
     (h.name, f.line, p.header.0, refl)
 
-no_message_line : (bytes : List ℕ) (i : Item) (more : List ℕ) (t : Stage) → IsMessage bytes i more t → ((rest : List ℕ) → HasLine bytes [] rest → ⊥) → ⊥
+no_message_line : (bytes : List ℕ) (i : Item) (more : List ℕ) (t : Next) → IsMessage bytes i more t → ((rest : List ℕ) → HasLine bytes [] rest → ⊥) → ⊥
 no_message_line bytes i more t p none = none p.2.0 (record { is = p.2.2; one = tt })
 
-pub item_not_stuck : (hash : HashKind) (s : Stage) (bytes : List ℕ) (i : Item) (more : List ℕ) (t : Stage) → ItemAt hash s bytes i more t → Stuck hash s bytes → ⊥
+pub item_not_stuck : (hash : HashKind) (s : Next) (bytes : List ℕ) (i : Item) (more : List ℕ) (t : Next) → ItemAt hash s bytes i more t → Stuck hash s bytes → ⊥
 item_not_stuck hash Tree bytes i more t p stuck = stuck (codes "tree " ++ p.1.0) more (id_in_line hash (codes "tree ") bytes p.1.0 more tree_word p.1.2) (p.1.0, p.1.2.0, refl)
 item_not_stuck hash Parents bytes i more t (inl p) stuck = stuck (codes "parent " ++ p.1.0) more (id_in_line hash (codes "parent ") bytes p.1.0 more parent_word p.1.2) (inl (p.1.0, p.1.2.0, refl))
 item_not_stuck hash Parents bytes i more t (inr p) stuck = stuck (codes "author " ++ p.1.2.line) more (who_in_line (codes "author ") bytes p.1.0 more author_word p.1.2) (inr (p.1.2.line, p.1.0, p.1.2.spells, refl))
@@ -100,7 +100,7 @@ no_fold_at_name : (name text line rest : List ℕ) → Without 32 name → name 
 no_fold_at_name [] text line rest p some e = some refl
 no_fold_at_name (b ∷ bs) text line rest p some e = let same : b ≡ 32 = cc in p.0 same
 
-pub item_no_fold : (hash : HashKind) (s : Stage) (bytes : List ℕ) (i : Item) (more : List ℕ) (t : Stage) → ItemAt hash s bytes i more t → EndsHeader s bytes
+pub item_no_fold : (hash : HashKind) (s : Next) (bytes : List ℕ) (i : Item) (more : List ℕ) (t : Next) → ItemAt hash s bytes i more t → EndsHeader s bytes
 item_no_fold hash Headers bytes i more t (inl p) e = λ line rest has.
     no_fold_at_name p.1.0.name (p.1.0.raw ++ 10 ∷ more) line rest (name_without_space p.1.0.name p.1.1.header.0.1) p.1.1.header.0.0 (sym (p.1.1.is ∙ raw_line_open p.1.0 more) ∙ has.is)
 item_no_fold hash Headers bytes i more t (inr p) e = λ line rest has. let k : 10 ∷ p.2.0 ≡ 32 ∷ (line ++ 10 ∷ rest) = sym p.2.2 ∙ has.is in absurd (cc)
@@ -111,7 +111,7 @@ item_no_fold hash Encoding bytes i more t p e = absurd (cc)
 item_no_fold hash End bytes i more t p e = absurd (cc)
 
 -- What was given grows by one item.
-pub record Stepped (hash : HashKind) (whole more : List ℕ) (t : Stage) (items : List Item) : Type 0 where
+pub record Stepped (hash : HashKind) (whole more : List ℕ) (t : Next) (items : List Item) : Type 0 where
   pub front : List ℕ
   pub is : whole ≡ front ++ more
   pub front_is : FrontIs hash t front items
@@ -120,7 +120,7 @@ pub record Stepped (hash : HashKind) (whole more : List ℕ) (t : Stage) (items 
 further : (whole front part rest more : List ℕ) → whole ≡ front ++ rest → rest ≡ part ++ more → whole ≡ (front ++ part) ++ more
 further whole front part rest more p q = p ∙ ap (λ l. front ++ l) q ∙ sym (append_assoc front part more)
 
-step_tree : (hash : HashKind) (whole front rest : List ℕ) (items : List Item) (i : Item) (more : List ℕ) (t : Stage) → whole ≡ front ++ rest → FrontIs hash Tree front items → ItemAt hash Tree rest i more t → Stepped hash whole more t (items ++ i ∷ [])
+step_tree : (hash : HashKind) (whole front rest : List ℕ) (items : List Item) (i : Item) (more : List ℕ) (t : Next) → whole ≡ front ++ rest → FrontIs hash Tree front items → ItemAt hash Tree rest i more t → Stepped hash whole more t (items ++ i ∷ [])
 step_tree hash whole front rest items i more t e f p =
     let g : TreeFront hash = record { tree = p.1.0; parents = []; tree_id = p.1.2.0; parent_ids = tt } in
     subst (λ u. Stepped hash whole more u (items ++ i ∷ [])) (sym p.0) (record {
@@ -237,7 +237,7 @@ spelled f encoding hs text p q = (
   simp append_assoc,
 )
 
-step_message : (hash : HashKind) (whole front rest : List ℕ) (items : List Item) (f : CommitterFront hash) (encoding : Option (List ℕ)) (hs : List HeaderText) (i : Item) (more : List ℕ) (t : Stage)
+step_message : (hash : HashKind) (whole front rest : List ℕ) (items : List Item) (f : CommitterFront hash) (encoding : Option (List ℕ)) (hs : List HeaderText) (i : Item) (more : List ℕ) (t : Next)
     → HasEncoding encoding hs → AllByRecursion IsHeader hs → whole ≡ front ++ rest → front ≡ late_text f.before.before.tree f.before.before.parents f.before.line f.line encoding hs
     → items ≡ committer_items f ++ (encoding_items encoding ++ map HeaderIs hs) → IsMessage rest i more t → Stepped hash whole more t (items ++ i ∷ [])
 step_message hash whole front rest items f encoding hs i more t p q e front_is items_are m =
@@ -253,7 +253,7 @@ step_message hash whole front rest items f encoding hs i more t p q e front_is i
       ends = λ h. absurd (cc);
     })
 
-pub stepped : (hash : HashKind) (s : Stage) (whole front rest : List ℕ) (items : List Item) (i : Item) (more : List ℕ) (t : Stage) → whole ≡ front ++ rest → FrontIs hash s front items → ItemAt hash s rest i more t → Stepped hash whole more t (items ++ i ∷ [])
+pub stepped : (hash : HashKind) (s : Next) (whole front rest : List ℕ) (items : List Item) (i : Item) (more : List ℕ) (t : Next) → whole ≡ front ++ rest → FrontIs hash s front items → ItemAt hash s rest i more t → Stepped hash whole more t (items ++ i ∷ [])
 stepped hash Tree whole front rest items i more t e f p = step_tree hash whole front rest items i more t e f p
 stepped hash Parents whole front rest items i more t e f (inl p) =
     subst (λ u. Stepped hash whole more u (items ++ i ∷ [])) (sym p.0) (subst (λ j. Stepped hash whole more Parents (items ++ j ∷ [])) (sym p.1.1) (step_parent hash whole front rest items p.1.0 more e f p.1.2))
@@ -272,26 +272,26 @@ stepped hash Headers whole front rest items i more t e (f, front_is, items_are) 
 stepped hash End whole front rest items i more t e f p = absurd p
 
 -- An item was given.
-pub next_some : (old : CommitRefIter) (token : CommitToken) (rest : Bor (List ℕ)) (stage : Stage) → ItemAt old.hash old.stage old.rest.now (item_of token) rest.now stage
-    → NextItem old (Some (Ok token)) (record { bytes = old.bytes; rest = rest; stage = stage; hash = old.hash })
-next_some old token rest stage p = record { bytes = refl; hash = refl; left = left; given = given }
+pub next_some : (old : CommitPlace) (token : CommitToken) (rest : List ℕ) (next : Next) → HasKind old.hash (Some (Ok token)) → ItemAt old.hash old.next old.rest (item_of token) rest next
+    → NextItem old (Some (Ok token)) (record { bytes = old.bytes; rest = rest; next = next; hash = old.hash })
+next_some old token rest next kind p = record { bytes = refl; hash = refl; kind = kind; left = left; given = given }
   where
-    new : CommitRefIter
-    new = record { bytes = old.bytes; rest = rest; stage = stage; hash = old.hash }
+    new : CommitPlace
+    new = record { bytes = old.bytes; rest = rest; next = next; hash = old.hash }
 
-    left : (items : List Item) → Left old items → LeftBehind items (Some (Ok token)) (record { bytes = old.bytes; rest = rest; stage = stage; hash = old.hash })
-    left [] l = let h : ItemAt old.hash End old.rest.now (item_of token) rest.now stage = subst (λ s. ItemAt old.hash s old.rest.now (item_of token) rest.now stage) l p in absurd h
+    left : (items : List Item) → Left old items → LeftBehind items (Some (Ok token)) (record { bytes = old.bytes; rest = rest; next = next; hash = old.hash })
+    left [] l = let h : ItemAt old.hash End old.rest (item_of token) rest next = subst (λ s. ItemAt old.hash s old.rest (item_of token) rest next) l p in absurd h
     left (i ∷ is) l =
-        let r = one_item old.hash old.stage old.rest.now i (item_of token) l.0 rest.now l.1 stage l.2 p in
-        (token, refl, sym r.0, subst (λ t. ReadsAll old.hash t rest.now is) r.2 (subst (λ b. ReadsAll old.hash l.1 b is) r.1 l.3))
+        let r = one_item old.hash old.next old.rest i (item_of token) l.0 rest l.1 next l.2 p in
+        (token, refl, sym r.0, subst (λ t. ReadsAll old.hash t rest is) r.2 (subst (λ b. ReadsAll old.hash l.1 b is) r.1 l.3))
 
-    given : (items : List Item) → Given old items → GivenBehind old items (Some (Ok token)) (record { bytes = old.bytes; rest = rest; stage = stage; hash = old.hash })
+    given : (items : List Item) → Given old items → GivenBehind old items (Some (Ok token)) (record { bytes = old.bytes; rest = rest; next = next; hash = old.hash })
     given items g =
-        let s = stepped old.hash old.stage old.bytes.now g.front old.rest.now items (item_of token) rest.now stage g.whole g.front_is p in
+        let s = stepped old.hash old.next old.bytes g.front old.rest items (item_of token) rest next g.whole g.front_is p in
         record { front = s.front; whole = s.is; front_is = s.front_is; ends = s.ends }
 
 -- No item was given.
-record Begun (hash : HashKind) (s : Stage) (front : List ℕ) : Type 0 where
+record Begun (hash : HashKind) (s : Next) (front : List ℕ) : Type 0 where
   leads : Leads hash Tree front s
   begins : BeginsCommit hash front
 
@@ -301,7 +301,7 @@ late_of None (h ∷ hs) p = refl
 late_of None [] (inl p) = absurd (p refl)
 late_of None [] (inr p) = absurd (p refl)
 
-begun : (hash : HashKind) (s : Stage) (front : List ℕ) (items : List Item) → s ≢ End → FrontIs hash s front items → Begun hash s front
+begun : (hash : HashKind) (s : Next) (front : List ℕ) (items : List Item) → s ≢ End → FrontIs hash s front items → Begun hash s front
 begun hash Tree front items e p = subst (Begun hash Tree) (sym p.0) (record { leads = leads_none hash Tree; begins = begins_tree hash })
 begun hash Parents front items e (f, is, items_are) = subst (Begun hash Parents) (sym is) (record { leads = leads_to_author hash f.tree f.parents f.tree_id f.parent_ids; begins = begins_parents hash f.tree f.parents f.tree_id f.parent_ids })
 begun hash Committer front items e (f, is, items_are) = subst (Begun hash Committer) (sym is) (record {
@@ -322,35 +322,43 @@ begun hash Headers front items e (f, is, items_are) =
     })
 begun hash End front items e p = absurd (e refl)
 
-pub next_none : (old : CommitRefIter) (error : DecodeError) → old.stage ≢ End → (EndsHeader old.stage old.rest.now → Stuck old.hash old.stage old.rest.now) → error ≡ Decode (length old.bytes.now - length old.rest.now)
-    → NextItem old (Some (Err error)) (record { bytes = old.bytes; rest = old.rest; stage = End; hash = old.hash })
-next_none old error other stuck place = record { bytes = refl; hash = refl; left = left; given = given }
+pub next_none : (old : CommitPlace) (error : DecodeError) → old.next ≢ End → (EndsHeader old.next old.rest → Stuck old.hash old.next old.rest) → error ≡ Decode (length old.bytes - length old.rest)
+    → NextItem old (Some (Err error)) (record { bytes = old.bytes; rest = old.rest; next = End; hash = old.hash })
+next_none old error other stuck place = record { bytes = refl; hash = refl; kind = tt; left = left; given = given }
   where
-    left : (items : List Item) → Left old items → LeftBehind items (Some (Err error)) (record { bytes = old.bytes; rest = old.rest; stage = End; hash = old.hash })
+    left : (items : List Item) → Left old items → LeftBehind items (Some (Err error)) (record { bytes = old.bytes; rest = old.rest; next = End; hash = old.hash })
     left [] l = absurd (other l)
-    left (i ∷ is) l = absurd (item_not_stuck old.hash old.stage old.rest.now i l.0 l.1 l.2 (stuck (item_no_fold old.hash old.stage old.rest.now i l.0 l.1 l.2)))
+    left (i ∷ is) l = absurd (item_not_stuck old.hash old.next old.rest i l.0 l.1 l.2 (stuck (item_no_fold old.hash old.next old.rest i l.0 l.1 l.2)))
 
-    given : (items : List Item) → Given old items → GivenBehind old items (Some (Err error)) (record { bytes = old.bytes; rest = old.rest; stage = End; hash = old.hash })
+    given : (items : List Item) → Given old items → GivenBehind old items (Some (Err error)) (record { bytes = old.bytes; rest = old.rest; next = End; hash = old.hash })
     given items g =
-        let b = begun old.hash old.stage g.front items other g.front_is in
-        let at = length old.bytes.now - length old.rest.now in (
+        let b = begun old.hash old.next g.front items other g.front_is in
+        let at = length old.bytes - length old.rest in (
           refl,
           subst (IsRefusal old) (sym place) (
-            refused_at old.hash old.bytes.now g.front old.rest.now old.stage at (Decode at) g.whole b.leads other (stuck g.ends) b.begins refl refl,
-            omega (arith, ap length g.whole, length-append g.front old.rest.now),
+            refused_at old.hash old.bytes g.front old.rest old.next at (Decode at) g.whole b.leads other (stuck g.ends) b.begins refl refl,
+            omega (arith, ap length g.whole, length-append g.front old.rest),
           ),
         )
 
 -- Stages put together.
-abbrev Found : HashKind → Stage → List ℕ → CommitToken × Bor (List ℕ) × Stage → Type 0
-Found hash s bytes p = ItemAt hash s bytes (item_of p.0) p.1.now p.2
+abbrev Found : HashKind → Next → List ℕ → CommitToken × Bor (List ℕ) × Stage → Type 0
+Found hash s bytes p = ItemAt hash s bytes (item_of p.0) p.1.now (next_of p.2)
 
-pub any_stage : (hash : HashKind) (s t : Stage) (bytes : List ℕ) (r : Option (CommitToken × Bor (List ℕ) × Stage)) → t ≡ s → MatchOption r (Stuck hash s bytes) (Found hash s bytes)
-    → MatchOption r (EndsHeader t bytes → Stuck hash t bytes) (Found hash t bytes)
-any_stage hash s t bytes None e m = λ _. subst (λ u. Stuck hash u bytes) (sym e) m
-any_stage hash s t bytes (Some p) e m = subst (λ u. Found hash u bytes p) (sym e) m
+pub any_stage : (hash : HashKind) (s t : Stage) (bytes : List ℕ) (r : Option (CommitToken × Bor (List ℕ) × Stage)) → t ≡ s → MatchOption r (Stuck hash (next_of s) bytes) (Found hash (next_of s) bytes)
+    → MatchOption r (EndsHeader (next_of t) bytes → Stuck hash (next_of t) bytes) (Found hash (next_of t) bytes)
+any_stage hash s t bytes None e m = λ _. subst (λ u. Stuck hash (next_of u) bytes) (sym e) m
+any_stage hash s t bytes (Some p) e m = subst (λ u. Found hash (next_of u) bytes p) (sym e) m
 
-pub header_stage : (hash : HashKind) (t : Stage) (bytes : List ℕ) (r : Option (CommitToken × Bor (List ℕ) × Stage)) → t ≡ Headers → MatchOption r (IsNoFold bytes → Stuck hash Headers bytes) (Found hash Headers bytes)
-    → MatchOption r (EndsHeader t bytes → Stuck hash t bytes) (Found hash t bytes)
-header_stage hash t bytes None e m = λ ends. subst (λ u. Stuck hash u bytes) (sym e) (m (ends e))
-header_stage hash t bytes (Some p) e m = subst (λ u. Found hash u bytes p) (sym e) m
+pub header_stage : (hash : HashKind) (t : Stage) (bytes : List ℕ) (r : Option (CommitToken × Bor (List ℕ) × Stage)) → t ≡ stage.Headers → MatchOption r (IsNoFold bytes → Stuck hash Headers bytes) (Found hash Headers bytes)
+    → MatchOption r (EndsHeader (next_of t) bytes → Stuck hash (next_of t) bytes) (Found hash (next_of t) bytes)
+header_stage hash t bytes None e m = λ ends. subst (λ u. Stuck hash (next_of u) bytes) (sym e) (m (ends (ap next_of e)))
+header_stage hash t bytes (Some p) e m = subst (λ u. Found hash (next_of u) bytes p) (sym e) m
+
+pub at_end : (s : Stage) → next_of s ≡ End → s ≡ stage.End
+at_end stage.Tree e = absurd (cc)
+at_end stage.Parents e = absurd (cc)
+at_end stage.Committer e = absurd (cc)
+at_end stage.Encoding e = absurd (cc)
+at_end stage.Headers e = absurd (cc)
+at_end stage.End e = refl

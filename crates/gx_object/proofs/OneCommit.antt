@@ -6,8 +6,7 @@ use Rattle.std.proofs.lemmas.Bool.Decides.{eqb_tells}
 use Rattle.std.proofs.lemmas.List.{append-nil, append_cancel_left, append_cancel_right, get_or_default}
 use Rattle.std.proofs.lemmas.List.Elements.{recursion_from_All}
 use Rattle.gx_hash.specs.declared.kind.HashKind.{HashKind}
-use Rattle.gx_object.specs.declared.commit.iter.Stage.{Stage}
-use Rattle.gx_object.specs.declared.commit.iter.Stage.TheVariants.{Tree, Parents, Committer, Encoding, Headers, End}
+use Rattle.gx_object.specs.CommitNext.{Next, Tree, Parents, Committer, Encoding, Headers, End}
 use Rattle.gx_object.specs.declared.commit.decode.CommitRef.{CommitRef}
 use Rattle.gx_object.specs.declared.decode.DecodeError.{DecodeError}
 use Rattle.gx_object.specs.declared.decode.DecodeError.TheVariants.{Decode, NoMemory}
@@ -141,7 +140,7 @@ one_who word bytes a b m n p q =
     let r = same_split 10 p.line q.line m n p.one q.one (append_cancel_left word (p.line ++ 10 ∷ m) (q.line ++ 10 ∷ n) (sym (p.is ∙ cut p.line m) ∙ (q.is ∙ cut q.line n))) in
     (one_identity p.line a b p.spells (subst (λ l. SpellsIdentity l b) (sym r.0) q.spells), r.1)
 
-no_header_here : (bytes : List ℕ) (h : HeaderText) (m text : List ℕ) → HasHeader bytes h m → bytes ≡ 10 ∷ text → ⊥
+pub no_header_here : (bytes : List ℕ) (h : HeaderText) (m text : List ℕ) → HasHeader bytes h m → bytes ≡ 10 ∷ text → ⊥
 no_header_here bytes h m text p e = named h.name (name_without_newline h.name p.header.0.1) p.header.0.0 (sym (p.is ∙ raw_line_open h m) ∙ e)
   where
     named : (name : List ℕ) → Without 10 name → name ≢ [] → name ++ 32 ∷ (h.raw ++ 10 ∷ m) ≡ 10 ∷ text → ⊥
@@ -154,7 +153,7 @@ first_item h i j (inl p) (inr q) = absurd (q.0 p.0)
 first_item h i j (inr p) (inl q) = absurd (p.0 q.0)
 first_item h i j (inr p) (inr q) = p.1 ∙ sym q.1
 
-one_message : (bytes : List ℕ) (i j : Item) (m n : List ℕ) (t u : Stage) → IsMessage bytes i m t → IsMessage bytes j n u → (i ≡ j) × (m ≡ n) × (t ≡ u)
+one_message : (bytes : List ℕ) (i j : Item) (m n : List ℕ) (t u : Next) → IsMessage bytes i m t → IsMessage bytes j n u → (i ≡ j) × (m ≡ n) × (t ≡ u)
 one_message bytes i j m n t u p q =
     let e : 10 ∷ p.2.0 ≡ 10 ∷ q.2.0 = sym p.2.2 ∙ q.2.2 in
     let same : p.2.0 ≡ q.2.0 = cc in
@@ -163,7 +162,7 @@ one_message bytes i j m n t u p q =
 pub no_parent_author : (a b x y : List ℕ) → text_line (codes "parent ") a ++ x ≡ text_line (codes "author ") b ++ y → ⊥
 no_parent_author a b x y e = other_word (codes "arent " ++ (a ++ 10 ∷ [])) (codes "uthor " ++ (b ++ 10 ∷ [])) x y 112 97 (λ h. absurd (omega (arith, h))) e
 
-pub one_item : (hash : HashKind) (s : Stage) (bytes : List ℕ) (i j : Item) (m n : List ℕ) (t u : Stage) → ItemAt hash s bytes i m t → ItemAt hash s bytes j n u → (i ≡ j) × (m ≡ n) × (t ≡ u)
+pub one_item : (hash : HashKind) (s : Next) (bytes : List ℕ) (i j : Item) (m n : List ℕ) (t u : Next) → ItemAt hash s bytes i m t → ItemAt hash s bytes j n u → (i ≡ j) × (m ≡ n) × (t ≡ u)
 one_item hash Tree bytes i j m n t u p q =
     let r = one_id hash (codes "tree ") bytes p.1.0 q.1.0 m n p.1.2 q.1.2 in
     (p.1.1 ∙ ap TreeId r.0 ∙ sym q.1.1, r.1, p.0 ∙ sym q.0)
@@ -192,7 +191,7 @@ one_item hash Headers bytes i j m n t u (inr p) (inl q) = absurd (no_header_here
 one_item hash Headers bytes i j m n t u (inr p) (inr q) = one_message bytes i j m n t u p q
 one_item hash End bytes i j m n t u p q = absurd p
 
-pub one_reading : (hash : HashKind) (s : Stage) (bytes : List ℕ) (is js : List Item) → ReadsAll hash s bytes is → ReadsAll hash s bytes js → is ≡ js
+pub one_reading : (hash : HashKind) (s : Next) (bytes : List ℕ) (is js : List Item) → ReadsAll hash s bytes is → ReadsAll hash s bytes js → is ≡ js
 one_reading hash s bytes [] [] p q = refl
 one_reading hash s bytes [] (j ∷ js) p q = let h : ItemAt hash End bytes j q.0 q.1 = subst (λ r. ItemAt hash r bytes j q.0 q.1) p q.2 in absurd h
 one_reading hash s bytes (i ∷ is) [] p q = let h : ItemAt hash End bytes i p.0 p.1 = subst (λ r. ItemAt hash r bytes i p.0 p.1) q p.2 in absurd h
@@ -214,14 +213,14 @@ no_fold_behind (h ∷ hs) text p line rest has = named h.name (name_without_spac
     named [] open_ some k = some refl
     named (b ∷ bs) open_ some k = let same : b ≡ 32 = cc in open_.0 same
 
-header_in_front : (h : HeaderText) (hs : List HeaderText) (text : List ℕ) → IsHeader h → AllByRecursion IsHeader hs → HasHeader (flat_map raw_line (h ∷ hs) ++ 10 ∷ text) h (flat_map raw_line hs ++ 10 ∷ text)
+pub header_in_front : (h : HeaderText) (hs : List HeaderText) (text : List ℕ) → IsHeader h → AllByRecursion IsHeader hs → HasHeader (flat_map raw_line (h ∷ hs) ++ 10 ∷ text) h (flat_map raw_line hs ++ 10 ∷ text)
 header_in_front h hs text p q = record { is = append_assoc (raw_line h) (flat_map raw_line hs) (10 ∷ text); header = p; ends = no_fold_behind hs text q }
 
 reads_headers : (hash : HashKind) (hs : List HeaderText) (text : List ℕ) → AllByRecursion IsHeader hs → ReadsAll hash Headers (flat_map raw_line hs ++ 10 ∷ text) (map HeaderIs hs ++ MessageIs text ∷ [])
 reads_headers hash [] text p = reads_message hash text
 reads_headers hash (h ∷ hs) text p = (flat_map raw_line hs ++ 10 ∷ text, Headers, inl (refl, (h, header_in_front h hs text p.0 p.1, refl)), reads_headers hash hs text p.1)
 
-open_folds : (text : List ℕ) → IsOneLine text → text ≡ folded text
+pub open_folds : (text : List ℕ) → IsOneLine text → text ≡ folded text
 open_folds text p = sym (ap folded (sym (append-nil text)) ∙ folded_line text [] p ∙ append-nil text)
 
 reads_late : (hash : HashKind) (encoding : Option (List ℕ)) (hs : List HeaderText) (text : List ℕ) → HasEncoding encoding hs → AllByRecursion IsHeader hs

@@ -1,13 +1,15 @@
 -- The steps of an iterator over a tree.
-use Rattle.std.proofs.Common.{◌≡◌, ◌≤◌, ◌<◌, ◌-◌, ◌∙◌, ℕ, Some, None, Ok, Err, List, [], ◌∷◌, ◌++◌, length, take, drop, append_assoc, sym, ap, inl, inr, arith}
+use Rattle.std.proofs.Common.{◌≡◌, ◌≤◌, ◌<◌, ◌-◌, ◌∙◌, ℕ, Some, None, Ok, Err, List, [], ◌∷◌, ◌++◌, length, take, drop, append_assoc, sym, ap, refl, inl, inr, arith}
 use Rattle.std.proofs.lemmas.Bool.{cases_lt}
 use Rattle.std.proofs.lemmas.List.{append_cancel_left, length-append, length-take-le, take_at, take_all, take-append-drop}
+use Rattle.gx_hash.specs.HashKind.{IsOfKind}
 use Rattle.gx_hash.specs.declared.kind.HashKind.{HashKind}
 use Rattle.gx_object.specs.declared.decode.DecodeError.TheVariants.{Decode}
 use Rattle.gx_object.specs.declared.tree.Entry.{Entry}
 use Rattle.gx_object.specs.declared.tree.decode.EntryRef.{EntryRef}
 use Rattle.gx_object.specs.TreeSpelling.{entry_of, SpellsTree, ReadsUpTo, BeginsWithEntry}
 use Rattle.gx_object.specs.TreeIter.{HasLeft, IsOver, IsNext}
+use Rattle.gx_object.proofs.TreeKinds.{id_kind}
 use Rattle.gx_object.proofs.TreeFronts.{tree_none, tree_push, reads_here, reads_whole, reads_once, front_goes_on}
 
 none_more : (given entries : List Entry) → given ++ entries ≡ given → length entries ≡ 0
@@ -19,7 +21,7 @@ none_more given entries same =
 at_end : (hash : HashKind) (bytes : List ℕ) (at : ℕ) (given : List Entry) → length bytes ≤ at → SpellsTree hash (take at bytes) given → ReadsUpTo hash bytes given (length bytes)
 at_end hash bytes at given long front = reads_whole hash bytes given (rw (take_all at bytes long) at front)
 
-pub next_none : (hash : HashKind) (bytes : List ℕ) (at : ℕ) → length bytes ≤ at → (entries : List Entry) (end : ℕ) → HasLeft (record { hash = hash; bytes = bytes; at = at }) entries end → IsNext bytes entries end None (record { hash = hash; bytes = bytes; at = at })
+pub next_none : (hash : HashKind) (bytes : List ℕ) (at : ℕ) → length bytes ≤ at → (entries : List Entry) (end : ℕ) → HasLeft (record { hash = hash; bytes = bytes; at = at }) entries end → IsNext hash bytes entries end None (record { hash = hash; bytes = bytes; at = at })
 next_none hash bytes at long [] end left =
     let whole = at_end hash bytes at left.given long left.front in
     let same = reads_once hash bytes (left.given ++ []) left.given end (length bytes) left.whole whole in
@@ -32,11 +34,11 @@ next_none hash bytes at long (e ∷ es) end left =
 over : (hash : HashKind) → IsOver (record { hash = hash; bytes = []; at = 0 })
 over hash = record { given = []; front = tree_none hash; whole = reads_whole hash [] [] (tree_none hash) }
 
-bad_by : (hash : HashKind) (bytes : List ℕ) (at : ℕ) → at < length bytes → (entries : List Entry) (end : ℕ) → length entries ≡ 0 → end ≡ at → IsNext bytes entries end (Some (Err (Decode at))) (record { hash = hash; bytes = []; at = 0 })
+bad_by : (hash : HashKind) (bytes : List ℕ) (at : ℕ) → at < length bytes → (entries : List Entry) (end : ℕ) → length entries ≡ 0 → end ≡ at → IsNext hash bytes entries end (Some (Err (Decode at))) (record { hash = hash; bytes = []; at = 0 })
 bad_by hash bytes at within [] end empty same = (omega arith, ap Decode (sym same), over hash)
 bad_by hash bytes at within (e ∷ es) end empty same = absurd (omega arith)
 
-pub next_bad : (hash : HashKind) (bytes : List ℕ) (at : ℕ) → at < length bytes → ((entry : Entry) (rest : List ℕ) → ¬ BeginsWithEntry hash (drop at bytes) entry rest) → (entries : List Entry) (end : ℕ) → HasLeft (record { hash = hash; bytes = bytes; at = at }) entries end → IsNext bytes entries end (Some (Err (Decode at))) (record { hash = hash; bytes = []; at = 0 })
+pub next_bad : (hash : HashKind) (bytes : List ℕ) (at : ℕ) → at < length bytes → ((entry : Entry) (rest : List ℕ) → ¬ BeginsWithEntry hash (drop at bytes) entry rest) → (entries : List Entry) (end : ℕ) → HasLeft (record { hash = hash; bytes = bytes; at = at }) entries end → IsNext hash bytes entries end (Some (Err (Decode at))) (record { hash = hash; bytes = []; at = 0 })
 next_bad hash bytes at within none entries end left =
     let long : length (take at bytes) ≡ at = length-take-le at bytes (omega arith) in
     let here : ReadsUpTo hash bytes left.given at = rw (take-append-drop at bytes, long) at (reads_here hash (take at bytes) (drop at bytes) left.given left.front none) in
@@ -44,14 +46,14 @@ next_bad hash bytes at within none entries end left =
     let empty = none_more left.given entries same.0 in
     bad_by hash bytes at within entries end empty same.1
 
-some_by : (hash : HashKind) (bytes : List ℕ) (at : ℕ) (item : EntryRef) (given rest : List Entry) → SpellsTree hash (take at bytes) (given ++ entry_of item ∷ []) → (entries : List Entry) (end : ℕ) → entries ≡ entry_of item ∷ rest → ReadsUpTo hash bytes (given ++ entries) end → IsNext bytes entries end (Some (Ok item)) (record { hash = hash; bytes = bytes; at = at })
-some_by hash bytes at item given rest tree [] end same whole = cc
-some_by hash bytes at item given rest tree (e ∷ es) end same whole =
+some_by : (hash : HashKind) (bytes : List ℕ) (at : ℕ) (item : EntryRef) (given rest : List Entry) → IsOfKind hash item.oid → SpellsTree hash (take at bytes) (given ++ entry_of item ∷ []) → (entries : List Entry) (end : ℕ) → entries ≡ entry_of item ∷ rest → ReadsUpTo hash bytes (given ++ entries) end → IsNext hash bytes entries end (Some (Ok item)) (record { hash = hash; bytes = bytes; at = at })
+some_by hash bytes at item given rest kind tree [] end same whole = cc
+some_by hash bytes at item given rest kind tree (e ∷ es) end same whole =
     let first : entry_of item ≡ e = cc in
     let moved : given ++ e ∷ es ≡ given ++ entry_of item ∷ [] ++ es = ap (λ x. given ++ x ∷ es) (sym first) ∙ sym (append_assoc given (entry_of item ∷ []) es) in
-    (first, record { given = given ++ entry_of item ∷ []; front = tree; whole = rw moved at whole })
+    (first, kind, refl, refl, record { given = given ++ entry_of item ∷ []; front = tree; whole = rw moved at whole })
 
-pub next_some : (hash : HashKind) (bytes behind : List ℕ) (at : ℕ) (item : EntryRef) → at ≤ length bytes → BeginsWithEntry hash (drop at bytes) (entry_of item) behind → (entries : List Entry) (end : ℕ) → HasLeft (record { hash = hash; bytes = bytes; at = at }) entries end → IsNext bytes entries end (Some (Ok item)) (record { hash = hash; bytes = bytes; at = length bytes - length behind })
+pub next_some : (hash : HashKind) (bytes behind : List ℕ) (at : ℕ) (item : EntryRef) → at ≤ length bytes → BeginsWithEntry hash (drop at bytes) (entry_of item) behind → (entries : List Entry) (end : ℕ) → HasLeft (record { hash = hash; bytes = bytes; at = at }) entries end → IsNext hash bytes entries end (Some (Ok item)) (record { hash = hash; bytes = bytes; at = length bytes - length behind })
 next_some hash bytes behind at item within begins entries end left =
     let text : List ℕ = begins.0 in
     let front : List ℕ = take at bytes ++ text in
@@ -66,4 +68,4 @@ next_some hash bytes behind at item within begins entries end left =
     let order : new ≤ end = elim (cases_lt end new) [ inl below ↦ absurd (left.whole.longest new given below (omega arith) tree) | inr above ↦ above ] in
     let more = front_goes_on hash bytes new end given (left.given ++ entries) order tree left.whole.front in
     let rest : entries ≡ entry_of item ∷ more.0 = append_cancel_left left.given entries (entry_of item ∷ more.0) (more.1 ∙ append_assoc left.given (entry_of item ∷ []) more.0) in
-    some_by hash bytes new item left.given more.0 tree entries end rest left.whole
+    some_by hash bytes new item left.given more.0 (id_kind hash begins.2.id item.oid begins.2.oid) tree entries end rest left.whole

@@ -2,6 +2,7 @@
 use Rattle.std.specs.Prelude.{◌≡◌, ◌≢◌, ℕ, ◌⊎◌, ◌+◌, List, [], ◌∷◌, ◌++◌, length, map, codes, Option, Some, None, Result, Ok, Err}
 use Rattle.std.specs.List.{flat_map, AllByRecursion}
 use Rattle.gx_hash.specs.declared.kind.HashKind.{HashKind}
+use Rattle.gx_hash.specs.HashKind.{IsOfKind}
 use Rattle.gx_hash.specs.ObjectId.{hex_of}
 use Rattle.bstr.specs.BStr.{bstr_bytes}
 use Rattle.gx_object.specs.declared.commit.iter.CommitToken.{CommitToken}
@@ -9,14 +10,13 @@ use Rattle.gx_object.specs.declared.commit.iter.CommitToken.TheVariants as token
 use Rattle.gx_object.specs.declared.commit.iter.CommitRefIter.{CommitRefIter}
 use Rattle.gx_object.specs.declared.decode.DecodeError.{DecodeError}
 use Rattle.gx_object.specs.declared.decode.DecodeError.TheVariants.{Decode, NoMemory}
-use Rattle.gx_object.specs.declared.commit.iter.Stage.{Stage}
-use Rattle.gx_object.specs.declared.commit.iter.Stage.TheVariants.{Tree, Parents, Committer, Encoding, Headers, End}
+use Rattle.gx_object.specs.CommitNext.{Next, Tree, Parents, Committer, Encoding, Headers, End, CommitPlace, place_of}
 use Rattle.gx_object.specs.IdentitySpelling.{IdentityText, identity_text, SpellsIdentity}
 use Rattle.gx_object.specs.CommitSpelling.{IsHexId, HeaderText, CommitText, IsHeader, IsEncodingHeader, HasEncoding, IsOneLine, IsNoCommit, SpellsCommit, header_text, raw_line, text_line}
 use Rattle.gx_object.specs.Commit.{encoding_line}
 use Rattle.gx_object.specs.CommitLines.{HasLine, IsHeaderLine, HasIdentityLine, HasHeader, HasHeaders, AddsHeaders, HasParents, IsNoFold}
 
--- a part of a commit, as it stands in an object
+-- a part of a commit, as place stands in an object
 pub data Item : Type 0 where
   TreeId : (id : List ℕ) → Item
   ParentId : (id : List ℕ) → Item
@@ -45,11 +45,11 @@ HasIdLine hash word bytes id more = IsHexId hash id × (bytes ≡ text_line word
 abbrev pub IsFirstItem : HeaderText → Item → Type 0
 IsFirstItem h i = (IsEncodingHeader h × (i ≡ EncodingIs h.raw)) ⊎ ((IsEncodingHeader h → ⊥) × (i ≡ HeaderIs h))
 
-abbrev pub IsMessage : List ℕ → Item → List ℕ → Stage → Type 0
+abbrev pub IsMessage : List ℕ → Item → List ℕ → Next → Type 0
 IsMessage bytes i more t = (t ≡ End) × (more ≡ []) × ((text : List ℕ) × (i ≡ MessageIs text) × (bytes ≡ 10 ∷ text))
 
--- the item that comes next in the bytes, and what stands behind it
-abbrev pub ItemAt : HashKind → Stage → List ℕ → Item → List ℕ → Stage → Type 0
+-- the item that comes next in the bytes, and what stands behind place
+abbrev pub ItemAt : HashKind → Next → List ℕ → Item → List ℕ → Next → Type 0
 ItemAt hash Tree bytes i more t = (t ≡ Parents) × ((id : List ℕ) × (i ≡ TreeId id) × HasIdLine hash (codes "tree ") bytes id more)
 ItemAt hash Parents bytes i more t =
     ((t ≡ Parents) × ((id : List ℕ) × (i ≡ ParentId id) × HasIdLine hash (codes "parent ") bytes id more))
@@ -60,9 +60,9 @@ ItemAt hash Headers bytes i more t = ((t ≡ Headers) × ((h : HeaderText) × Ha
 ItemAt hash End bytes i more t = ⊥
 
 -- the bytes are these items and nothing else
-abbrev pub ReadsAll : HashKind → Stage → List ℕ → List Item → Type 0
+abbrev pub ReadsAll : HashKind → Next → List ℕ → List Item → Type 0
 ReadsAll hash s bytes [] = s ≡ End
-ReadsAll hash s bytes (i ∷ is) = (more : List ℕ) × (t : Stage) × ItemAt hash s bytes i more t × ReadsAll hash t more is
+ReadsAll hash s bytes (i ∷ is) = (more : List ℕ) × (t : Next) × ItemAt hash s bytes i more t × ReadsAll hash t more is
 
 -- an id or an identity behind a word
 abbrev pub HasId : HashKind → List ℕ → List ℕ → Type 0
@@ -72,7 +72,7 @@ abbrev pub HasWho : List ℕ → List ℕ → Type 0
 HasWho word line = (text : List ℕ) × (who : IdentityText) × SpellsIdentity text who × (line ≡ word ++ text)
 
 -- the line may come next
-abbrev pub Allows : HashKind → Stage → List ℕ → Type 0
+abbrev pub Allows : HashKind → Next → List ℕ → Type 0
 Allows hash Tree line = HasId hash (codes "tree ") line
 Allows hash Parents line = HasId hash (codes "parent ") line ⊎ HasWho (codes "author ") line
 Allows hash Committer line = HasWho (codes "committer ") line
@@ -81,7 +81,7 @@ Allows hash Headers line = (line ≡ []) ⊎ (IsHeaderLine line ⊎ ((text : Lis
 Allows hash End line = ⊥
 
 -- no whole line in front may come next
-abbrev pub Stuck : HashKind → Stage → List ℕ → Type 0
+abbrev pub Stuck : HashKind → Next → List ℕ → Type 0
 Stuck hash s rest = (line more : List ℕ) → HasLine rest line more → Allows hash s line → ⊥
 
 abbrev pub item_of : CommitToken → Item
@@ -147,7 +147,7 @@ abbrev pub headers_items : {hash : HashKind} → HeadersFront hash → List Item
 headers_items f = committer_items f.before ++ (encoding_items f.encoding ++ map HeaderIs f.headers)
 
 -- the front is the lines of these items, and the stage comes next
-abbrev pub FrontIs : HashKind → Stage → List ℕ → List Item → Type 0
+abbrev pub FrontIs : HashKind → Next → List ℕ → List Item → Type 0
 FrontIs hash Tree front items = (front ≡ []) × (items ≡ [])
 FrontIs hash Parents front items = (f : TreeFront hash) × (front ≡ tree_front f) × (items ≡ tree_items f)
 FrontIs hash Committer front items = (f : AuthorFront hash) × (front ≡ author_front f) × (items ≡ author_items f)
@@ -155,87 +155,97 @@ FrontIs hash Encoding front items = (f : CommitterFront hash) × (front ≡ comm
 FrontIs hash Headers front items = (f : HeadersFront hash) × (front ≡ headers_front f) × (items ≡ headers_items f)
 FrontIs hash End front items = (c : CommitText) × SpellsCommit hash front c × (items ≡ items_of c)
 
--- no line of a header is left where a header stands before it
-abbrev pub EndsHeader : Stage → List ℕ → Type 0
+-- no line of a header is left where a header stands before place
+abbrev pub EndsHeader : Next → List ℕ → Type 0
 EndsHeader s rest = s ≡ Headers → IsNoFold rest
 
--- The iterator has given these items: they are the lines in front of what it has left.
-pub record Given (it : CommitRefIter) (items : List Item) : Type 0 where
+-- The iterator has given these items: they are the lines in front of what place has left.
+pub record Given (place : CommitPlace) (items : List Item) : Type 0 where
   pub front : List ℕ
-  pub whole : it.bytes.now ≡ front ++ it.rest.now
-  pub front_is : FrontIs it.hash it.stage front items
-  pub ends : EndsHeader it.stage it.rest.now
+  pub whole : place.bytes ≡ front ++ place.rest
+  pub front_is : FrontIs place.hash place.next front items
+  pub ends : EndsHeader place.next place.rest
 
 -- The iterator has these items left, which end a commit.
-abbrev pub Left : CommitRefIter → List Item → Type 0
-Left it items = ReadsAll it.hash it.stage it.rest.now items
+abbrev pub Left : CommitPlace → List Item → Type 0
+Left place items = ReadsAll place.hash place.next place.rest items
 
-abbrev pub LeftBehind : List Item → Option (Result CommitToken DecodeError) → CommitRefIter → Type 0
+abbrev pub LeftBehind : List Item → Option (Result CommitToken DecodeError) → CommitPlace → Type 0
 LeftBehind [] result new = (result ≡ None) × Left new []
 LeftBehind (i ∷ is) result new = (token : CommitToken) × (result ≡ Some (Ok token)) × (item_of token ≡ i) × Left new is
 
 -- the bytes spell no commit, and go wrong where the iterator stands
-abbrev pub IsRefusal : CommitRefIter → DecodeError → Type 0
-IsRefusal it (Decode at) = IsNoCommit it.hash it.bytes.now at × (at + length it.rest.now ≡ length it.bytes.now)
-IsRefusal it NoMemory = ⊥
+abbrev pub IsRefusal : CommitPlace → DecodeError → Type 0
+IsRefusal place (Decode at) = IsNoCommit place.hash place.bytes at × (at + length place.rest ≡ length place.bytes)
+IsRefusal place NoMemory = ⊥
 
-abbrev pub GivenBehind : CommitRefIter → List Item → Option (Result CommitToken DecodeError) → CommitRefIter → Type 0
-GivenBehind old items None new = (old.stage ≡ End) × (new ≡ old)
+abbrev pub GivenBehind : CommitPlace → List Item → Option (Result CommitToken DecodeError) → CommitPlace → Type 0
+GivenBehind old items None new = (old.next ≡ End) × (new ≡ old)
 GivenBehind old items (Some (Ok token)) new = Given new (items ++ item_of token ∷ [])
-GivenBehind old items (Some (Err e)) new = (new.stage ≡ End) × IsRefusal old e
+GivenBehind old items (Some (Err e)) new = (new.next ≡ End) × IsRefusal old e
+
+-- an id is of the kind that was asked for
+abbrev pub HasKind : HashKind → Option (Result CommitToken DecodeError) → Type 0
+HasKind hash (Some (Ok (token.Tree id))) = IsOfKind hash id
+HasKind hash (Some (Ok (token.Parent id))) = IsOfKind hash id
+HasKind hash result = Unit {0}
 
 -- what a call of the iterator gives
-pub record NextItem (old : CommitRefIter) (result : Option (Result CommitToken DecodeError)) (new : CommitRefIter) : Type 0 where
-  pub bytes : new.bytes.now ≡ old.bytes.now
+pub record NextItem (old : CommitPlace) (result : Option (Result CommitToken DecodeError)) (new : CommitPlace) : Type 0 where
+  pub bytes : new.bytes ≡ old.bytes
   pub hash : new.hash ≡ old.hash
+  pub kind : HasKind old.hash result
   -- of a commit, each item in turn
   pub left : (items : List Item) → Left old items → LeftBehind items result new
   -- of other bytes, the items in front of their place, and then the refusal
   pub given : (items : List Item) → Given old items → GivenBehind old items result new
 
+abbrev pub GivesNext : CommitRefIter → Option (Result CommitToken DecodeError) → CommitRefIter → Type 0
+GivesNext old result new = NextItem (place_of old) result (place_of new)
+
 -- how many items are left at most
-abbrev pub items_left_at : Stage → ℕ → ℕ
+abbrev pub items_left_at : Next → ℕ → ℕ
 items_left_at End bytes = 0
 items_left_at s bytes = bytes + 1
 
 abbrev pub items_left : CommitRefIter → ℕ
-items_left it = items_left_at it.stage (length it.rest.now)
+items_left it = items_left_at (place_of it).next (length (place_of it).rest)
 
 -- A front of the bytes is the lines of items that end with this one.
-pub record StandsInFront (it : CommitRefIter) (i : Item) : Type 0 where
-  pub stage : Stage
+pub record StandsInFront (place : CommitPlace) (i : Item) : Type 0 where
+  pub stage : Next
   pub front : List ℕ
   pub rest : List ℕ
   pub items : List Item
-  pub whole : it.bytes.now ≡ front ++ rest
-  pub front_is : FrontIs it.hash stage front (items ++ i ∷ [])
+  pub whole : place.bytes ≡ front ++ rest
+  pub front_is : FrontIs place.hash stage front (items ++ i ∷ [])
 
 -- The bytes spell no commit, and go wrong behind the lines that stand before this stage.
-pub record GoesWrong (it : CommitRefIter) (stage : Stage) (e : DecodeError) : Type 0 where
+pub record GoesWrong (place : CommitPlace) (stage : Next) (e : DecodeError) : Type 0 where
   pub at : ℕ
   pub error : e ≡ Decode at
-  pub none : IsNoCommit it.hash it.bytes.now at
+  pub none : IsNoCommit place.hash place.bytes at
   pub front : List ℕ
   pub items : List Item
-  pub place : at ≡ length front
-  pub front_is : FrontIs it.hash stage front items
+  pub at_is : at ≡ length front
+  pub front_is : FrontIs place.hash stage front items
 
 -- in or before the author's line, in or before the committer's
-abbrev pub GoesWrongByAuthor : CommitRefIter → DecodeError → Type 0
-GoesWrongByAuthor it e = GoesWrong it Tree e ⊎ GoesWrong it Parents e
+abbrev pub GoesWrongByAuthor : CommitPlace → DecodeError → Type 0
+GoesWrongByAuthor place e = GoesWrong place Tree e ⊎ GoesWrong place Parents e
 
-abbrev pub GoesWrongByCommitter : CommitRefIter → DecodeError → Type 0
-GoesWrongByCommitter it e = GoesWrongByAuthor it e ⊎ GoesWrong it Committer e
+abbrev pub GoesWrongByCommitter : CommitPlace → DecodeError → Type 0
+GoesWrongByCommitter place e = GoesWrongByAuthor place e ⊎ GoesWrong place Committer e
 
 -- the lines up to an author stand in front of the rest, and up to a committer
-pub record HasAuthor (it : CommitRefIter) (who : IdentityText) (rest : List ℕ) : Type 0 where
-  pub lines : AuthorFront it.hash
-  pub whole : it.bytes.now ≡ author_front lines ++ rest
+pub record HasAuthor (place : CommitPlace) (who : IdentityText) (rest : List ℕ) : Type 0 where
+  pub lines : AuthorFront place.hash
+  pub whole : place.bytes ≡ author_front lines ++ rest
   pub who_is : lines.who ≡ who
 
-pub record HasCommitter (it : CommitRefIter) (who : IdentityText) (rest : List ℕ) : Type 0 where
-  pub lines : CommitterFront it.hash
-  pub whole : it.bytes.now ≡ committer_front lines ++ rest
+pub record HasCommitter (place : CommitPlace) (who : IdentityText) (rest : List ℕ) : Type 0 where
+  pub lines : CommitterFront place.hash
+  pub whole : place.bytes ≡ committer_front lines ++ rest
   pub who_is : lines.who ≡ who
 
 -- some parents stand in front, and no further one behind them
@@ -251,13 +261,13 @@ abbrev pub SkipsFurther : List ℕ → List ℕ → Type 0
 SkipsFurther bytes rest = (headers : List HeaderText) × AddsHeaders bytes [] headers rest
 
 -- the bytes spell a commit with this message
-pub record SpellsMessage (it : CommitRefIter) (text : List ℕ) : Type 0 where
+pub record SpellsMessage (place : CommitPlace) (text : List ℕ) : Type 0 where
   pub commit : CommitText
-  pub spells : SpellsCommit it.hash it.bytes.now commit
+  pub spells : SpellsCommit place.hash place.bytes commit
   pub message : commit.message ≡ text
 
 -- the bytes spell no commit, and go wrong at the place
-pub record SpellsNone (it : CommitRefIter) (e : DecodeError) : Type 0 where
+pub record SpellsNone (place : CommitPlace) (e : DecodeError) : Type 0 where
   pub at : ℕ
   pub error : e ≡ Decode at
-  pub none : IsNoCommit it.hash it.bytes.now at
+  pub none : IsNoCommit place.hash place.bytes at

@@ -1,6 +1,8 @@
 pub mod Commit
 pub mod CommitItems
 pub mod CommitLines
+pub mod CommitNext
+pub mod CommitSignature
 pub mod CommitSpelling
 pub mod Field
 pub mod Identity
@@ -13,9 +15,13 @@ pub mod OwnedTag
 pub mod ParentIds
 pub mod Split
 pub mod Tag
+pub mod TagFronts
+pub mod TagItems
 pub mod TagLines
 pub mod TagSpelling
+pub mod TagStages
 pub mod TimeSpelling
 pub mod Tree
 pub mod TreeIter
 pub mod TreeSpelling
+pub mod WrittenText

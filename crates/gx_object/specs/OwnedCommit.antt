@@ -2,6 +2,7 @@
 use Rattle.std.specs.Prelude.{◌≡◌, map}
 use Rattle.std.specs.List.{AllByRecursion}
 use Rattle.gx_hash.specs.declared.kind.HashKind.{HashKind}
+use Rattle.gx_hash.specs.HashKind.{IsOfKind}
 use Rattle.gx_hash.specs.ObjectId.{hex_of}
 use Rattle.gx_object.specs.declared.signature.Time.{Time}
 use Rattle.gx_object.specs.declared.commit.Commit.{Commit}
@@ -11,11 +12,19 @@ use Rattle.gx_object.specs.TimeSpelling.{SpellsTime}
 use Rattle.gx_object.specs.OwnedTag.{OwnsIdentity}
 use Rattle.gx_object.specs.CommitSpelling.{CommitText, HeaderText, IsHexId, unfolded}
 
--- the texts of the ids are digits of ids, as they are in a commit that was read
-pub record HasIds (c : CommitText) : Type 0 where
-  pub hash : HashKind
+-- the texts of the ids are digits of ids of this kind
+pub record HasIdsOf (hash : HashKind) (c : CommitText) : Type 0 where
   pub tree : IsHexId hash c.tree
   pub parents : AllByRecursion (IsHexId hash) c.parents
+
+-- or of some kind, as they are in a commit that was read
+abbrev pub HasIds : CommitText → Type 0
+HasIds c = (hash : HashKind) × HasIdsOf hash c
+
+-- the ids are of this kind
+pub record IsOfHash (hash : HashKind) (c : Commit) : Type 0 where
+  pub tree : IsOfKind hash c.tree
+  pub parents : AllByRecursion (IsOfKind hash) c.parents
 
 abbrev pub HasNoTime : IdentityText → Type 0
 HasNoTime text = (time : Time) → ¬ SpellsTime text.time time

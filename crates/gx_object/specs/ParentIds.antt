@@ -15,21 +15,32 @@ HasParentsInFront hash bytes parents =
     ((tree more rest : List ℕ) × HasIdLine hash (codes "tree ") bytes tree more × HasParents hash more parents rest)
     ⊎ (IsNoIdLine hash (codes "tree ") bytes × (parents ≡ []))
 
--- the iterator has ids of this kind, with these digits, left
-pub record HasParentsLeft (hash : HashKind) (it : ParentIds) (parents : List (List ℕ)) : Type 0 where
-  pub kind : it.hash ≡ hash
+-- where an iterator stands: what is left of the bytes
+pub record ParentsPlace : Type 0 where
+  pub hash : HashKind
   pub rest : List ℕ
-  pub lines : HasParents hash it.rest.now parents rest
+
+abbrev pub place_of : ParentIds → ParentsPlace
+place_of it = record { hash = it.hash; rest = it.rest.now }
+
+-- ids of this kind, with these digits, are left
+pub record HasParentsLeft (hash : HashKind) (place : ParentsPlace) (parents : List (List ℕ)) : Type 0 where
+  pub kind : place.hash ≡ hash
+  pub rest : List ℕ
+  pub lines : HasParents hash place.rest parents rest
 
 -- the next id, where one is left, and then the end
-abbrev pub IsNextParent : HashKind → List (List ℕ) → Option ObjectId → ParentIds → Type 0
+abbrev pub IsNextParent : HashKind → List (List ℕ) → Option ObjectId → ParentsPlace → Type 0
 IsNextParent hash (parent ∷ parents) (Some id) new = (hex_of id ≡ parent) × IsOfKind hash id × HasParentsLeft hash new parents
 IsNextParent hash [] None new = HasParentsLeft hash new []
 IsNextParent hash parents item new = ⊥
 
+abbrev pub GivesParent : ParentsPlace → Option ObjectId → ParentsPlace → Type 0
+GivesParent old item new = (hash : HashKind) (parents : List (List ℕ)) → HasParentsLeft hash old parents → IsNextParent hash parents item new
+
 abbrev pub GivesNextParent : ParentIds → Option ObjectId → ParentIds → Type 0
-GivesNextParent old item new = (hash : HashKind) (parents : List (List ℕ)) → HasParentsLeft hash old parents → IsNextParent hash parents item new
+GivesNextParent old item new = GivesParent (place_of old) item (place_of new)
 
 -- no more ids come than bytes are left
 abbrev pub parent_bytes_left : ParentIds → Count
-parent_bytes_left it = at_most (length it.rest.now)
+parent_bytes_left it = at_most (length (place_of it).rest)

@@ -4,6 +4,7 @@ mod iter;
 mod lines;
 mod owned;
 mod parent_ids;
+mod signed_data;
 #[cfg(test)]
 mod tests;
 mod write;
@@ -15,6 +16,7 @@ use gx_hash::{Bytes, ObjectId};
 pub use iter::{CommitRefIter, CommitToken};
 pub(crate) use lines::{after, id_line, id_of, identity_line, split_line};
 pub use parent_ids::ParentIds;
+pub use signed_data::{SignedData, signature_of};
 pub use write::push_commit;
 pub(crate) use write::{has_no_newline, push_id_line, push_identity_line};
 

@@ -1,14 +1,31 @@
 //! What follows from the definitions, for proofs to cite. The functions do nothing.
-ghost use Rattle.std.specs.Prelude.{◌≡◌, ℕ, List, [], None, Some, All};
+ghost use Rattle.std.specs.Prelude.{◌≡◌, ℕ, List, [], None, Some, All, true};
+ghost use Rattle.gx_hash.specs.HashKind.{kind_of};
+ghost use Rattle.gx_hash.specs.ObjectId.{bytes_of, hex_of};
 ghost use Rattle.gx_hash.specs.declared.kind.HashKind.{HashKind};
+ghost use Rattle.hex.specs.Hex.{IsBytes};
+ghost use Rattle.gx_object.specs.declared.commit.Commit.{Commit};
+ghost use Rattle.gx_object.specs.declared.signature.Signature.{Signature};
+ghost use Rattle.gx_object.specs.declared.signature.Time.{Time};
+ghost use Rattle.gx_object.specs.declared.tag.Tag.{Tag};
 ghost use Rattle.gx_object.specs.declared.tree.Entry.{Entry};
 ghost use Rattle.gx_object.specs.Commit.{commit_bytes, plain_commit_bytes};
+ghost use Rattle.gx_object.specs.CommitSpelling.{CommitText, IsHexId, SpellsCommit};
+ghost use Rattle.gx_object.specs.Identity.{identity_bytes, time_bytes, is_writable_offset};
+ghost use Rattle.gx_object.specs.IdentitySpelling.{IdentityText, SpellsIdentity};
 ghost use Rattle.gx_object.specs.Kind.{kind_name, kind_named};
 ghost use Rattle.gx_object.specs.Mode.{mode_of, kind_of_mode};
+ghost use Rattle.gx_object.specs.OwnedCommit.{IsCopyOf};
+ghost use Rattle.gx_object.specs.OwnedTag.{OwnsTag};
+ghost use Rattle.gx_object.specs.Tag.{tag_bytes};
+ghost use Rattle.gx_object.specs.TagSpelling.{TagText, SpellsTag};
+ghost use Rattle.gx_object.specs.TimeSpelling.{SpellsTime};
 ghost use Rattle.gx_object.specs.Tree.{tree_bytes};
 ghost use Rattle.gx_object.specs.TreeSpelling.{SpellsTree, ReadsUpTo, HasSpelling};
+ghost use Rattle.gx_object.specs.WrittenText.{written_identity, written_commit, written_tag, HasSeconds, IsWholeMinutes, CanWriteIdentity, CanWriteCommit, TaggerHas, CanWriteTag};
 
 use crate::{Commit, EntryKind, Kind};
+use gx_hash::ObjectId;
 
 /// A commit without an encoding and without further headers is spelled as `push_commit` writes it.
 #[tactic(auto, unfolding(crate::specs::Commit::commit_bytes, crate::specs::Commit::plain_commit_bytes))]
@@ -46,4 +63,53 @@ pub fn bytes_are_read_in_one_way()
 /// What is written of a tree spells it.
 pub fn written_tree_is_read()
     ensures { (hash : HashKind) (entries : List Entry) → All (HasSpelling hash) entries → SpellsTree hash (tree_bytes entries) entries }
+{}
+
+/// Bytes spell one commit at most.
+pub fn commit_is_spelled_once()
+    ensures { (hash : HashKind) (bytes : List ℕ) (a b : CommitText) → SpellsCommit hash bytes a → SpellsCommit hash bytes b → a ≡ b }
+{}
+
+/// Bytes spell one tag at most.
+pub fn tag_is_spelled_once()
+    ensures { (hash : HashKind) (bytes : List ℕ) (a b : TagText) → SpellsTag hash bytes a → SpellsTag hash bytes b → a ≡ b }
+{}
+
+/// A line spells one identity at most.
+pub fn identity_is_spelled_once()
+    ensures { (line : List ℕ) (a b : IdentityText) → SpellsIdentity line a → SpellsIdentity line b → a ≡ b }
+{}
+
+/// A text spells one moment at most.
+pub fn time_is_spelled_once()
+    ensures { (text : List ℕ) (a b : Time) → SpellsTime text a → SpellsTime text b → a ≡ b }
+{}
+
+/// The digits of an id are those of an id in a header.
+pub fn id_has_digits(id: &ObjectId)
+    ensures { IsHexId (kind_of id.now) (hex_of id.now) }
+{
+    are_bytes(id.as_bytes());
+}
+
+fn are_bytes(bytes: &[u8])
+    ensures { IsBytes bytes.now }
+{}
+
+/// What is written of an identity spells it, and of a moment in whole minutes that moment.
+pub fn written_identity_is_read()
+    ensures spelled { (who : Signature) → CanWriteIdentity who → SpellsIdentity (identity_bytes who) (written_identity who) }
+    ensures time { (time : Time) → HasSeconds time → is_writable_offset time.offset ≡ true → IsWholeMinutes time.offset → SpellsTime (time_bytes time) time }
+{}
+
+/// What is written of a commit spells it, and the commit is a copy of what is read there, where its offsets are whole minutes.
+pub fn written_commit_is_read()
+    ensures spelled { (hash : HashKind) (c : Commit) → CanWriteCommit hash c → SpellsCommit hash (commit_bytes c) (written_commit c) }
+    ensures copy { (hash : HashKind) (c : Commit) → CanWriteCommit hash c → IsWholeMinutes c.author.time.offset → IsWholeMinutes c.committer.time.offset → IsCopyOf (written_commit c) c }
+{}
+
+/// What is written of a tag spells it, and the tag is a copy of what is read there, where its offset is whole minutes.
+pub fn written_tag_is_read()
+    ensures spelled { (hash : HashKind) (t : Tag) → CanWriteTag hash t → SpellsTag hash (tag_bytes t) (written_tag t) }
+    ensures copy { (hash : HashKind) (t : Tag) → CanWriteTag hash t → TaggerHas (λ time. IsWholeMinutes time.offset) t.tagger → OwnsTag (written_tag t) t }
 {}

@@ -22,7 +22,7 @@ mod write_to;
 pub use blob::Blob;
 pub use commit::{
     Commit, CommitRef, CommitRefIter, CommitToken, ExtraHeader, ExtraHeaders, OwnedHeader,
-    ParentIds, push_commit,
+    ParentIds, SignedData, push_commit, signature_of,
 };
 pub use decode::DecodeError;
 pub use encode::{EncodeError, Field};
@@ -33,7 +33,7 @@ pub use signature::{
     BadTime, Signature, SignatureError, SignatureRef, Time, is_writable_identity, push_identity,
     unwritable_identity,
 };
-pub use tag::{Tag, TagRef};
+pub use tag::{Tag, TagRef, TagRefIter, TagToken};
 pub use tree::{
     Entry, EntryKind, EntryMode, EntryRef, Tree, TreeRef, TreeRefIter, push_entry, push_tree,
 };

@@ -1,4 +1,7 @@
 mod decode;
+mod fields;
+mod items;
+mod iter;
 mod lines;
 #[cfg(test)]
 mod tests;
@@ -7,6 +10,8 @@ mod write;
 use crate::{Kind, Signature};
 pub use decode::TagRef;
 use gx_hash::{Bytes, ObjectId};
+pub use items::TagToken;
+pub use iter::TagRefIter;
 
 /// An annotated tag: a name for an object.
 #[derive(Debug, Drop)]

@@ -1,8 +1,9 @@
-//! What the libraries say of names and objects, for the checks and the benches of this repository.
+//! What the libraries say of names, objects and path maps, for the checks and the benches of this repository.
 #![tactic(auto)]
 
 mod names;
 mod objects;
+mod paths;
 
 use gx_hash::{HashKind, NoMemory};
 use objects::ProbeError;
@@ -11,15 +12,21 @@ use std::env;
 use std::io::{self, ErrorKind, Read, Write};
 use std::process::ExitCode;
 
-const USAGE: &str = "usage: gx_probe names | (tree | commit | entries) (sha1 | sha256) < INPUT
+const USAGE: &str =
+    "usage: gx_probe names | (tree | commit | tag | entries | root | paths) (sha1 | sha256) < INPUT
 
   names    judges each line: `full`, `partial` or `no`, as it is a name of a reference
   tree     reads a tree, and writes it again
   commit   reads a commit, and writes it again
+  tag      reads a tag, and writes it again
   entries  counts the entries of a tree
+  root     puts the leaf of each line at its path, in turn, and writes the id of the root
+  paths    does so, reads the trees of that root, and writes the lines of its path map
+
+A leaf's line is its mode, a space, its id, a tab, and its path: `git update-index --index-info` reads such lines.
 
 status  0  done
-        1  the input is no such object; standard error hears from which byte on
+        1  the input is no such object, of which standard error hears from which byte on, or no such lines
         2  the words are not as above
         3  reading or writing failed, or memory ran out
 ";
@@ -36,7 +43,10 @@ enum Job {
     Names,
     Tree(HashKind),
     Commit(HashKind),
+    Tag(HashKind),
     Entries(HashKind),
+    Root(HashKind),
+    Paths(HashKind),
 }
 
 fn main(rt: HostRuntime) -> ExitCode {
@@ -75,7 +85,10 @@ fn read_job(job: &str, hash: HashKind) -> Option<Job> {
     match job {
         "tree" => Some(Job::Tree(hash)),
         "commit" => Some(Job::Commit(hash)),
+        "tag" => Some(Job::Tag(hash)),
         "entries" => Some(Job::Entries(hash)),
+        "root" => Some(Job::Root(hash)),
+        "paths" => Some(Job::Paths(hash)),
         _ => None,
     }
 }
@@ -100,6 +113,7 @@ fn done(rt: &HostRuntime, job: Job) -> u8 {
             let _heard = eprintln!(rt; "no such object from byte {at} on");
             NO_OBJECT
         }
+        Err(ProbeError::BadLine) => NO_OBJECT,
         Err(_) => FAILED,
     }
 }
@@ -122,6 +136,9 @@ fn answer(alloc: Global, job: Job, input: &[u8]) -> Result<Vec<u8>, ProbeError> 
         Job::Names => Ok(names::judge(alloc, input)?),
         Job::Tree(hash) => objects::rewrite_tree(alloc, input, hash),
         Job::Commit(hash) => objects::rewrite_commit(alloc, input, hash),
+        Job::Tag(hash) => objects::rewrite_tag(alloc, input, hash),
         Job::Entries(hash) => objects::count_entries(alloc, input, hash),
+        Job::Root(hash) => paths::write_root(alloc, input, hash),
+        Job::Paths(hash) => paths::reread(alloc, input, hash),
     }
 }

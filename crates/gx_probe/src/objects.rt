@@ -1,6 +1,6 @@
 use gx_hash::{HashKind, NoMemory};
 use gx_object::{
-    CommitRef, DecodeError, EncodeError, SignatureError, TreeRef, TreeRefIter, WriteTo,
+    CommitRef, DecodeError, EncodeError, SignatureError, TagRef, TreeRef, TreeRefIter, WriteTo,
 };
 use std::alloc::{AllocError, Global};
 use thiserror::Error;
@@ -10,6 +10,8 @@ use thiserror::Error;
 pub enum ProbeError {
     #[error("no such object from byte {at} on")]
     Decode { at: usize },
+    #[error("a line is no mode, id and path of a leaf")]
+    BadLine,
     /// What was read can't be written: a time, say.
     #[error("the object can't be written again")]
     Unwritable,
@@ -66,6 +68,12 @@ pub fn rewrite_tree(alloc: Global, bytes: &[u8], hash: HashKind) -> Result<Vec<u
 pub fn rewrite_commit(alloc: Global, bytes: &[u8], hash: HashKind) -> Result<Vec<u8>, ProbeError> {
     let commit = CommitRef::from_bytes(alloc, bytes, hash)?.to_owned(alloc)?;
     Ok(commit.to_bytes(alloc)?.into_vec())
+}
+
+/// The tag that the bytes spell, as it is written.
+pub fn rewrite_tag(alloc: Global, bytes: &[u8], hash: HashKind) -> Result<Vec<u8>, ProbeError> {
+    let tag = TagRef::from_bytes(bytes, hash)?.to_owned(alloc)?;
+    Ok(tag.to_bytes(alloc)?.into_vec())
 }
 
 /// The number of entries of the tree that the bytes spell, on a line.

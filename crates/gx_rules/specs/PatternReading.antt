@@ -1,5 +1,5 @@
 -- What the functions find that walk along the text of a pattern.
-use Rattle.std.specs.Prelude.{ℕ, ◌+◌, ◌*◌, ◌<◌, ◌≤◌, max, ◌⊎◌, ◌↔◌, IsTrue, Bool, true, false, not, ◌||◌, ◌&&◌, ◌==◌, nat_le, if◌then◌else◌, List, [], ◌∷◌, drop, length, Option, Some, None}
+use Rattle.std.specs.Prelude.{◌≡◌, ℕ, ◌+◌, ◌*◌, ◌<◌, ◌≤◌, max, ◌⊎◌, ◌↔◌, IsTrue, Bool, true, false, not, ◌||◌, ◌&&◌, ◌==◌, nat_le, if◌then◌else◌, List, [], ◌∷◌, drop, length, Option, Some, None}
 use Rattle.gx_rules.specs.declared.pattern.letter.Letter.{Letter as Read}
 use Rattle.gx_rules.specs.declared.pattern.letter.Letter.TheVariants as read
 use Rattle.gx_rules.specs.declared.pattern.matching.Walk.{Walk}
@@ -118,10 +118,20 @@ StepGives old (step.Done answer) = IsTrue answer ↔ IsAlive old
 abbrev pub IsWithin : ℕ → Walk → Type 0
 IsWithin limit walk = (length walk.pattern.now ≤ limit) × (length walk.behind_star.now ≤ limit)
 
--- the steps that are left at most: one for each byte of the pattern, at each byte of the name
+-- the steps that are left at most: at each byte of the name and at its end, one for each byte of the pattern and one for the pattern's end
 abbrev pub steps_left : ℕ → Walk → ℕ
-steps_left limit walk = max (length walk.name.now) (length walk.from_star.now) * (limit + 1) + length walk.pattern.now
+steps_left limit walk = max (length walk.name.now) (length walk.from_star.now) * (limit + 1) + length walk.pattern.now + 1
 
-abbrev pub Shortens : Walk → Step → Type 0
-Shortens old (step.Next new) = (limit : ℕ) → IsWithin limit old → IsWithin limit new × (steps_left limit new < steps_left limit old)
-Shortens old (step.Done answer) = Unit {0}
+-- a turn that takes the count of steps from the one number to the other takes no more than were left, and leaves the others
+abbrev pub Spends : Walk → (before after : ℕ) → Step → Type 0
+Spends old before after (step.Next new) = (limit : ℕ) → IsWithin limit old → IsWithin limit new × (after + steps_left limit new ≤ before + steps_left limit old)
+Spends old before after (step.Done answer) = after ≤ before + length old.pattern.now + 1
+
+-- the last star takes its next byte from no later a place than the walk's
+abbrev pub IsAhead : Walk → Type 0
+IsAhead walk = 0 < length walk.from_star.now → length walk.name.now ≤ length walk.from_star.now
+
+-- a turn passes one byte of the name at most, and finds a match at the name's end alone
+abbrev pub Passes : Walk → Step → Type 0
+Passes old (step.Next new) = IsAhead new × (length old.name.now ≤ length new.name.now + 1)
+Passes old (step.Done answer) = IsTrue answer → length old.name.now ≡ 0

@@ -27,11 +27,12 @@ impl Model for FullName {
 }
 
 impl FullName {
-    /// The name, if it is a full one. The error tells the first rule that it breaks.
+    /// The name, if it is a full one. The error tells the first rule that it breaks; only a full name is out of
+    /// memory.
     pub fn new(alloc: Global, name: &[u8]) -> Result<FullName, NameError>
         ensures { MatchResult result
             (λ full. (full ≡ name.now) × IsFullName name.now)
-            (λ error. (error ≡ NameError.NoMemory) ⊎ IsFirstBroken name.now error) }
+            (λ error. ((error ≡ NameError.NoMemory) × IsFullName name.now) ⊎ IsFirstBroken name.now error) }
     {
         check_full_name(name)?;
         Ok(FullName {

@@ -12,6 +12,7 @@ mod namespace;
 mod partial_name;
 mod path;
 mod pattern;
+mod steps;
 
 pub use category::Category;
 pub use component_error::ComponentError;
@@ -22,3 +23,4 @@ pub use namespace::{Namespace, expand_namespace};
 pub use partial_name::PartialName;
 pub use path::{PathComponents, components};
 pub use pattern::{Pattern, PatternError};
+pub use steps::Steps;

@@ -26,11 +26,12 @@ impl Model for PartialName {
 }
 
 impl PartialName {
-    /// The name, if it is a partial one. The error tells the first rule that it breaks.
+    /// The name, if it is a partial one. The error tells the first rule that it breaks; only a partial name is out of
+    /// memory.
     pub fn new(alloc: Global, name: &[u8]) -> Result<PartialName, NameError>
         ensures { MatchResult result
             (λ partial. (partial ≡ name.now) × IsPartialName name.now)
-            (λ error. (error ≡ NameError.NoMemory) ⊎ (IsFirstBroken name.now error × (error ≢ NameError.SomeLowercase))) }
+            (λ error. ((error ≡ NameError.NoMemory) × IsPartialName name.now) ⊎ (IsFirstBroken name.now error × (error ≢ NameError.SomeLowercase))) }
     {
         check_partial_name(name)?;
         Ok(PartialName {

@@ -1,5 +1,5 @@
 //! Glob patterns over names.
-ghost use Rattle.std.specs.Prelude.{◌≡◌, ◌≢◌, ◌-◌, ◌↔◌, IsTrue, [], length, codes, MatchResult};
+ghost use Rattle.std.specs.Prelude.{◌≡◌, ◌≢◌, ◌+◌, ◌-◌, ◌*◌, ◌<◌, ◌≤◌, ◌↔◌, IsTrue, [], length, codes, MatchResult};
 ghost use Rattle.std.specs.List.{list_any};
 ghost use Rattle.bstr.specs.BStr.{bstr_bytes};
 ghost use Rattle.gx_rules.specs.Name.{StandsAt};
@@ -10,10 +10,12 @@ mod matching;
 mod set;
 
 use self::matching::is_match;
+use crate::Steps;
 use bstr::BStr;
 use gx_hash::{Bytes, NoMemory};
 use std::alloc::Global;
-use std::marker::Model;
+use std::marker::{Brand, Model};
+use std::sync::ledger::{Blank, Ledger};
 use thiserror::Error;
 
 /// Why a text is no pattern.
@@ -101,13 +103,35 @@ impl Pattern {
             .any(|byte| matches!(*byte, b'*' | b'?' | b'['))
     }
 
-    /// Whether the pattern matches the whole name. The time is at most proportional to the product of the two
-    /// lengths, however many stars the pattern has.
+    /// Whether the pattern matches the whole name, in the steps that `matches_counted` counts: the time is at most
+    /// proportional to the product of the two lengths, however many stars the pattern has.
     pub fn matches(&self, name: &[u8]) -> bool
         ensures { IsTrue result ↔ IsMatch self.now name.now }
     {
-        is_match(self.as_slice(), name)
+        matches_uncounted::<Brand>(self, name, Blank::new(1))
     }
+
+    /// The same as `matches`, with a count of the steps. A step is one piece of the pattern, or one member of a set,
+    /// that is asked for one byte of the name or for its end. Each turn of a loop is a step, and reads at most three
+    /// letters of the pattern.
+    pub fn matches_counted<L: Ledger>(&self, name: &[u8], steps: &mut Steps<L>) -> bool
+        ensures matches { IsTrue result ↔ IsMatch self.now name.now }
+        ensures cost { steps.new ≤ steps.old + (length self.now + 1) * (length name.now + 1) }
+        // Steps are counted: at least one, and where the name matches, one for each of its bytes and for its end.
+        ensures counts { steps.old < steps.new }
+        ensures passes { IsTrue result → steps.old + length name.now < steps.new }
+    {
+        is_match(self.as_slice(), name, steps)
+    }
+}
+
+fn matches_uncounted<L: Ledger>(pattern: &Pattern, name: &[u8], blank: Blank) -> bool
+    requires name { blank.name ≡ L.name }
+    requires parts { blank.parts ≡ L.parts }
+    requires some { 0 < blank.parts }
+    ensures { IsTrue result ↔ IsMatch pattern.now name.now }
+{
+    pattern.matches_counted(name, &mut Steps::<L>::new(blank))
 }
 
 #[cfg(test)]

@@ -4,7 +4,7 @@ ghost use Rattle.std.specs.Option.{option_map};
 ghost use Rattle.bstr.specs.BStr.{bstr_bytes};
 ghost use Rattle.gx_object.specs.declared.decode.DecodeError.TheVariants.{Decode, NoMemory as no_memory};
 ghost use Rattle.gx_object.specs.CommitLines.{HasParents, HasHeaders, PushesHeaders};
-ghost use Rattle.gx_object.specs.OwnedCommit.{HasIds};
+ghost use Rattle.gx_object.specs.OwnedCommit.{HasIdsOf};
 ghost use Rattle.gx_object.specs.CommitSpelling.{CommitText, commit_text, header_text, folded, unfolded, SpellsCommit, IsNoCommit};
 
 #[cfg(test)]
@@ -120,7 +120,7 @@ impl<'a> CommitRef<'a> {
         ensures spelled { IfOk result (λ c. SpellsCommit hash bytes.now (commit_text c)) }
         ensures only { (c : CommitText) → SpellsCommit hash bytes.now c → MatchResult result (λ found. commit_text found ≡ c) (λ e. e ≡ no_memory) }
         ensures refused { (at : ℕ) → IsErrOf result (Decode at) → IsNoCommit hash bytes.now at }
-        ensures ids { IfOk result (λ c. HasIds (commit_text c)) }
+        ensures ids { IfOk result (λ c. HasIdsOf hash (commit_text c)) }
     {
         read_commit(alloc, bytes, hash)
     }

@@ -6,7 +6,8 @@ ghost use Rattle.gx_object.specs.IdentitySpelling.{identity_text};
 ghost use Rattle.gx_object.specs.CommitSpelling.{CommitText, SpellsCommit};
 ghost use Rattle.gx_object.specs.CommitLines.{IsNoHeader};
 ghost use Rattle.gx_object.specs.CommitItems.{TreeId, AuthorIs, CommitterIs, StandsInFront, GoesWrong, GoesWrongByAuthor, GoesWrongByCommitter, HasAuthor, HasCommitter, SkipsParents, SkipsHeaders, SkipsFurther, SpellsMessage, SpellsNone};
-ghost use Rattle.gx_object.specs.declared.commit.iter.Stage.TheVariants.{Tree};
+ghost use Rattle.gx_object.specs.CommitNext.{Tree, place_of};
+ghost use Rattle.gx_hash.specs.HashKind.{IsOfKind};
 
 use crate::commit::decode::bad_line;
 use crate::commit::lines::{header, id_line, id_of, identity_line, message};
@@ -17,9 +18,10 @@ use gx_hash::{HashKind, ObjectId};
 impl<'a> CommitRefIter<'a> {
     /// The id of the commit's tree.
     pub fn tree_id(&self) -> Result<ObjectId, DecodeError>
-        ensures commit { (c : CommitText) → SpellsCommit self.now.hash self.now.bytes.now c → MatchResult result (λ id. hex_of id ≡ c.tree) (λ _. ⊥) }
-        ensures found { IfOk result (λ id. StandsInFront self.now (TreeId (hex_of id))) }
-        ensures refused { IfErr result (GoesWrong self.now Tree) }
+        ensures commit { (c : CommitText) → SpellsCommit (place_of self.now).hash (place_of self.now).bytes c → MatchResult result (λ id. hex_of id ≡ c.tree) (λ _. ⊥) }
+        ensures found { IfOk result (λ id. StandsInFront (place_of self.now) (TreeId (hex_of id))) }
+        ensures kind { IfOk result (IsOfKind (place_of self.now).hash) }
+        ensures refused { IfErr result (GoesWrong (place_of self.now) Tree) }
     {
         let Some((text, _)) = id_line(self.bytes, b"tree ", self.hash) else {
             return Err(bad_line(self.bytes, self.bytes));
@@ -29,9 +31,9 @@ impl<'a> CommitRefIter<'a> {
 
     /// Who made the change, and when.
     pub fn author(&self) -> Result<SignatureRef<'a>, DecodeError>
-        ensures commit { (c : CommitText) → SpellsCommit self.now.hash self.now.bytes.now c → MatchResult result (λ who. identity_text who ≡ c.author) (λ _. ⊥) }
-        ensures found { IfOk result (λ who. StandsInFront self.now (AuthorIs (identity_text who))) }
-        ensures refused { IfErr result (GoesWrongByAuthor self.now) }
+        ensures commit { (c : CommitText) → SpellsCommit (place_of self.now).hash (place_of self.now).bytes c → MatchResult result (λ who. identity_text who ≡ c.author) (λ _. ⊥) }
+        ensures found { IfOk result (λ who. StandsInFront (place_of self.now) (AuthorIs (identity_text who))) }
+        ensures refused { IfErr result (GoesWrongByAuthor (place_of self.now)) }
     {
         let (signature, _) = self.author_line()?;
         Ok(signature)
@@ -39,9 +41,9 @@ impl<'a> CommitRefIter<'a> {
 
     /// Who made the commit, and when.
     pub fn committer(&self) -> Result<SignatureRef<'a>, DecodeError>
-        ensures commit { (c : CommitText) → SpellsCommit self.now.hash self.now.bytes.now c → MatchResult result (λ who. identity_text who ≡ c.committer) (λ _. ⊥) }
-        ensures found { IfOk result (λ who. StandsInFront self.now (CommitterIs (identity_text who))) }
-        ensures refused { IfErr result (GoesWrongByCommitter self.now) }
+        ensures commit { (c : CommitText) → SpellsCommit (place_of self.now).hash (place_of self.now).bytes c → MatchResult result (λ who. identity_text who ≡ c.committer) (λ _. ⊥) }
+        ensures found { IfOk result (λ who. StandsInFront (place_of self.now) (CommitterIs (identity_text who))) }
+        ensures refused { IfErr result (GoesWrongByCommitter (place_of self.now)) }
     {
         let (signature, _) = self.committer_line()?;
         Ok(signature)
@@ -49,15 +51,15 @@ impl<'a> CommitRefIter<'a> {
 
     /// The message, where the bytes spell a commit.
     pub fn message(&self) -> Result<BStr<'a>, DecodeError>
-        ensures commit { (c : CommitText) → SpellsCommit self.now.hash self.now.bytes.now c → MatchResult result (λ text. bstr_bytes text ≡ c.message) (λ _. ⊥) }
-        ensures found { IfOk result (λ text. SpellsMessage self.now (bstr_bytes text)) }
-        ensures refused { IfErr result (SpellsNone self.now) }
+        ensures commit { (c : CommitText) → SpellsCommit (place_of self.now).hash (place_of self.now).bytes c → MatchResult result (λ text. bstr_bytes text ≡ c.message) (λ _. ⊥) }
+        ensures found { IfOk result (λ text. SpellsMessage (place_of self.now) (bstr_bytes text)) }
+        ensures refused { IfErr result (SpellsNone (place_of self.now)) }
     {
         read_message(self)
     }
 
     fn author_line(&self) -> Result<(SignatureRef<'a>, &'a [u8]), DecodeError>
-        ensures { MatchResult result (λ p. HasAuthor self.now (identity_text p.0) p.1.now) (GoesWrongByAuthor self.now) }
+        ensures { MatchResult result (λ p. HasAuthor (place_of self.now) (identity_text p.0) p.1.now) (GoesWrongByAuthor (place_of self.now)) }
     {
         let Some((_, rest)) = id_line(self.bytes, b"tree ", self.hash) else {
             return Err(bad_line(self.bytes, self.bytes));
@@ -69,8 +71,8 @@ impl<'a> CommitRefIter<'a> {
         Ok((signature, behind))
     }
 
-    fn committer_line(&self) -> Result<(SignatureRef<'a>, &'a [u8]), DecodeError>
-        ensures { MatchResult result (λ p. HasCommitter self.now (identity_text p.0) p.1.now) (GoesWrongByCommitter self.now) }
+    pub(super) fn committer_line(&self) -> Result<(SignatureRef<'a>, &'a [u8]), DecodeError>
+        ensures { MatchResult result (λ p. HasCommitter (place_of self.now) (identity_text p.0) p.1.now) (GoesWrongByCommitter (place_of self.now)) }
     {
         let (_, rest) = self.author_line()?;
         let Some((signature, behind)) = identity_line(rest, b"committer ") else {
@@ -81,7 +83,7 @@ impl<'a> CommitRefIter<'a> {
 }
 
 fn read_message<'a>(items: &CommitRefIter<'a>) -> Result<BStr<'a>, DecodeError>
-    ensures { MatchResult result (λ text. SpellsMessage items.now (bstr_bytes text)) (SpellsNone items.now) }
+    ensures { MatchResult result (λ text. SpellsMessage (place_of items.now) (bstr_bytes text)) (SpellsNone (place_of items.now)) }
 {
     let (_, rest) = items.committer_line()?;
     let rest = skip_headers(rest);

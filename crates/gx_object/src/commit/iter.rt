@@ -1,11 +1,11 @@
 // A commit's parts, one after another.
-ghost use Rattle.std.specs.Prelude.{◌≡◌, [], ◌∷◌, MatchOption};
+ghost use Rattle.std.specs.Prelude.{◌≡◌, [], ◌∷◌, IfSome, MatchOption, Some, Ok};
 ghost use Rattle.std.specs.Iterator.{at_most};
 ghost use Rattle.gx_hash.specs.declared.kind.HashKind.{HashKind};
-ghost use Rattle.gx_object.specs.declared.commit.iter.Stage.TheVariants.{Tree, Parents, Committer, Encoding, Headers};
+ghost use Rattle.gx_object.specs.CommitNext.{Tree, Parents, Committer, Encoding, Headers, next_of, place_of};
 ghost use Rattle.gx_object.specs.CommitSpelling.{CommitText, SpellsCommit};
 ghost use Rattle.gx_object.specs.CommitLines.{IsNotBehind, IsNoFold};
-ghost use Rattle.gx_object.specs.CommitItems.{Stuck, ItemAt, IsMessage, EndsHeader, Given, Left, NextItem, item_of, items_of, items_left};
+ghost use Rattle.gx_object.specs.CommitItems.{Stuck, ItemAt, IsMessage, EndsHeader, Given, GivesNext, HasKind, Left, item_of, items_of, items_left};
 
 use crate::commit::ExtraHeader;
 use crate::commit::decode::bad_line;
@@ -41,7 +41,8 @@ pub(crate) enum Stage {
 type Step<'a> = (CommitToken<'a>, &'a [u8], Stage);
 
 fn tree_item(bytes: &[u8], hash: HashKind) -> Option<Step<'_>>
-    ensures { MatchOption result (Stuck hash Tree bytes.now) (λ p. ItemAt hash Tree bytes.now (item_of p.0) p.1.now p.2) }
+    ensures item { MatchOption result (Stuck hash Tree bytes.now) (λ p. ItemAt hash Tree bytes.now (item_of p.0) p.1.now (next_of p.2)) }
+    ensures kind { IfSome result (λ p. HasKind hash (Some (Ok p.0))) }
 {
     let (text, rest) = id_line(bytes, b"tree ", hash)?;
     let id = id_of(text.as_bytes(), hash);
@@ -49,7 +50,8 @@ fn tree_item(bytes: &[u8], hash: HashKind) -> Option<Step<'_>>
 }
 
 fn parent_or_author(bytes: &[u8], hash: HashKind) -> Option<Step<'_>>
-    ensures { MatchOption result (Stuck hash Parents bytes.now) (λ p. ItemAt hash Parents bytes.now (item_of p.0) p.1.now p.2) }
+    ensures item { MatchOption result (Stuck hash Parents bytes.now) (λ p. ItemAt hash Parents bytes.now (item_of p.0) p.1.now (next_of p.2)) }
+    ensures kind { IfSome result (λ p. HasKind hash (Some (Ok p.0))) }
 {
     if let Some((text, rest)) = id_line(bytes, b"parent ", hash) {
         let id = id_of(text.as_bytes(), hash);
@@ -60,21 +62,24 @@ fn parent_or_author(bytes: &[u8], hash: HashKind) -> Option<Step<'_>>
 }
 
 fn committer_item(bytes: &[u8]) -> Option<Step<'_>>
-    ensures { (hash : HashKind) → MatchOption result (Stuck hash Committer bytes.now) (λ p. ItemAt hash Committer bytes.now (item_of p.0) p.1.now p.2) }
+    ensures item { (hash : HashKind) → MatchOption result (Stuck hash Committer bytes.now) (λ p. ItemAt hash Committer bytes.now (item_of p.0) p.1.now (next_of p.2)) }
+    ensures kind { (hash : HashKind) → IfSome result (λ p. HasKind hash (Some (Ok p.0))) }
 {
     let (signature, rest) = identity_line(bytes, b"committer ")?;
     Some((CommitToken::Committer { signature }, rest, Stage::Encoding))
 }
 
 fn message_item(bytes: &[u8]) -> Option<Step<'_>>
-    ensures { MatchOption result (IsNotBehind (10 ∷ []) bytes.now) (λ p. IsMessage bytes.now (item_of p.0) p.1.now p.2) }
+    ensures item { MatchOption result (IsNotBehind (10 ∷ []) bytes.now) (λ p. IsMessage bytes.now (item_of p.0) p.1.now (next_of p.2)) }
+    ensures kind { (hash : HashKind) → IfSome result (λ p. HasKind hash (Some (Ok p.0))) }
 {
     let text = message(bytes)?;
     Some((CommitToken::Message(text), b"", Stage::End))
 }
 
 fn first_header_or_message(bytes: &[u8]) -> Option<Step<'_>>
-    ensures { (hash : HashKind) → MatchOption result (Stuck hash Encoding bytes.now) (λ p. ItemAt hash Encoding bytes.now (item_of p.0) p.1.now p.2) }
+    ensures item { (hash : HashKind) → MatchOption result (Stuck hash Encoding bytes.now) (λ p. ItemAt hash Encoding bytes.now (item_of p.0) p.1.now (next_of p.2)) }
+    ensures kind { (hash : HashKind) → IfSome result (λ p. HasKind hash (Some (Ok p.0))) }
 {
     let Some((header, rest)) = header(bytes) else {
         return message_item(bytes);
@@ -86,7 +91,8 @@ fn first_header_or_message(bytes: &[u8]) -> Option<Step<'_>>
 }
 
 fn header_or_message(bytes: &[u8]) -> Option<Step<'_>>
-    ensures { (hash : HashKind) → MatchOption result (IsNoFold bytes.now → Stuck hash Headers bytes.now) (λ p. ItemAt hash Headers bytes.now (item_of p.0) p.1.now p.2) }
+    ensures item { (hash : HashKind) → MatchOption result (IsNoFold bytes.now → Stuck hash Headers bytes.now) (λ p. ItemAt hash Headers bytes.now (item_of p.0) p.1.now (next_of p.2)) }
+    ensures kind { (hash : HashKind) → IfSome result (λ p. HasKind hash (Some (Ok p.0))) }
 {
     let Some((header, rest)) = header(bytes) else {
         return message_item(bytes);
@@ -95,7 +101,8 @@ fn header_or_message(bytes: &[u8]) -> Option<Step<'_>>
 }
 
 fn next_item(bytes: &[u8], stage: Stage, hash: HashKind) -> Option<Step<'_>>
-    ensures { MatchOption result (EndsHeader stage bytes.now → Stuck hash stage bytes.now) (λ p. ItemAt hash stage bytes.now (item_of p.0) p.1.now p.2) }
+    ensures item { MatchOption result (EndsHeader (next_of stage) bytes.now → Stuck hash (next_of stage) bytes.now) (λ p. ItemAt hash (next_of stage) bytes.now (item_of p.0) p.1.now (next_of p.2)) }
+    ensures kind { IfSome result (λ p. HasKind hash (Some (Ok p.0))) }
 {
     match stage {
         Stage::Tree => tree_item(bytes, hash),
@@ -119,9 +126,9 @@ pub struct CommitRefIter<'a> {
 impl<'a> CommitRefIter<'a> {
     /// The parts of the commit that the bytes spell, in a repository of this kind.
     pub fn from_bytes(bytes: &'a [u8], hash: HashKind) -> CommitRefIter<'a>
-        ensures bytes { (result.bytes.now ≡ bytes.now) × (result.hash ≡ hash) }
-        ensures commit { (c : CommitText) → SpellsCommit hash bytes.now c → Left result (items_of c) }
-        ensures given { Given result [] }
+        ensures place { place_of result ≡ record { hash = hash; bytes = bytes.now; rest = bytes.now; next = Tree } }
+        ensures commit { (c : CommitText) → SpellsCommit hash bytes.now c → Left (place_of result) (items_of c) }
+        ensures given { Given (place_of result) [] }
     {
         CommitRefIter {
             bytes,
@@ -135,7 +142,7 @@ impl<'a> CommitRefIter<'a> {
 impl<'a> Iterator for CommitRefIter<'a> {
     type Item = Result<CommitToken<'a>, DecodeError>;
 
-    ghost next_gives = { NextItem };
+    ghost next_gives = { GivesNext };
 
     ghost remaining = { λ it. at_most (items_left it) };
 

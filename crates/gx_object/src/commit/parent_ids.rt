@@ -1,7 +1,8 @@
 // The ids of a commit's parents, one by one.
 ghost use Rattle.std.specs.Prelude.{ℕ, List};
+ghost use Rattle.gx_object.specs.CommitNext as of_commit;
 ghost use Rattle.gx_object.specs.CommitSpelling.{CommitText, SpellsCommit};
-ghost use Rattle.gx_object.specs.ParentIds.{HasParentsInFront, HasParentsLeft, GivesNextParent, parent_bytes_left};
+ghost use Rattle.gx_object.specs.ParentIds.{HasParentsInFront, HasParentsLeft, GivesNextParent, parent_bytes_left, place_of};
 
 #[cfg(test)]
 mod tests;
@@ -20,8 +21,8 @@ pub struct ParentIds<'a> {
 impl<'a> CommitRefIter<'a> {
     /// The ids of the commit's parents up to the first error, however far this iterator has come.
     pub fn parent_ids(&self) -> ParentIds<'a>
-        ensures commit { (c : CommitText) → SpellsCommit self.now.hash self.now.bytes.now c → HasParentsLeft self.now.hash result c.parents }
-        ensures front { (parents : List (List ℕ)) → HasParentsInFront self.now.hash self.now.bytes.now parents → HasParentsLeft self.now.hash result parents }
+        ensures commit { (c : CommitText) → SpellsCommit (of_commit.place_of self.now).hash (of_commit.place_of self.now).bytes c → HasParentsLeft (of_commit.place_of self.now).hash (place_of result) c.parents }
+        ensures front { (parents : List (List ℕ)) → HasParentsInFront (of_commit.place_of self.now).hash (of_commit.place_of self.now).bytes parents → HasParentsLeft (of_commit.place_of self.now).hash (place_of result) parents }
     {
         match id_line(self.bytes, b"tree ", self.hash) {
             Some((_, rest)) => ParentIds {

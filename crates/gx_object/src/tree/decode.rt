@@ -1,5 +1,7 @@
 // Trees as their bytes spell them.
 ghost use Rattle.std.specs.Prelude.{◌≡◌, ℕ, List, map, IfOk, IfErr, IsErrOf, MatchOption, MatchResult};
+ghost use Rattle.std.specs.List.{AllByRecursion};
+ghost use Rattle.gx_hash.specs.HashKind.{IsOfKind};
 ghost use Rattle.gx_object.specs.declared.tree.Entry.{Entry};
 ghost use Rattle.gx_object.specs.declared.decode.DecodeError.TheVariants.{Decode, NoMemory as no_memory};
 ghost use Rattle.gx_object.specs.TreeSpelling.{entry_of, SpellsMode, SpellsEntry, SpellsTree, IsBadPlace, BeginsWithEntry};
@@ -48,6 +50,7 @@ impl<'a> TreeRef<'a> {
         hash: HashKind,
     ) -> Result<TreeRef<'a>, DecodeError>
         ensures spelled { IfOk result (λ tree. SpellsTree hash bytes.now (map entry_of tree.entries)) }
+        ensures kind { IfOk result (λ tree. AllByRecursion (λ e. IsOfKind hash e.oid) tree.entries) }
         ensures bad_place { (at : ℕ) → IsErrOf result (DecodeError.Decode at) → IsBadPlace hash bytes.now at }
         ensures only { (entries : List Entry) → SpellsTree hash bytes.now entries → MatchResult result (λ tree. map entry_of tree.entries ≡ entries) (λ error. error ≡ DecodeError.NoMemory) }
     {

@@ -99,18 +99,35 @@ fn sees_through_spellings_of_ntfs(rt: HostRuntime) {
     }
 }
 
+/// Each code point that HFS+ passes over, by Git's `next_hfs_char`, and several of them at either end.
+const SPELLINGS_OF_HFS: [&str; 18] = [
+    ".g\u{200c}it",
+    ".g\u{200d}it",
+    ".g\u{200e}it",
+    ".g\u{200f}it",
+    ".g\u{202a}it",
+    ".g\u{202b}it",
+    ".g\u{202c}it",
+    ".g\u{202d}it",
+    ".g\u{202e}it",
+    ".g\u{206a}it",
+    ".g\u{206b}it",
+    ".g\u{206c}it",
+    ".g\u{206d}it",
+    ".g\u{206e}it",
+    ".g\u{206f}it",
+    ".g\u{feff}it",
+    "\u{200f}.git",
+    ".giT\u{206f}\u{feff}",
+];
+
 #[test]
 fn sees_through_code_points_of_hfs(rt: HostRuntime) {
-    for name in [
-        ".g\u{200c}it",
-        "\u{200f}.git",
-        ".git\u{202a}",
-        ".gi\u{202e}T",
-        ".\u{206a}git",
-        ".git\u{206f}\u{feff}",
-    ] {
+    for name in SPELLINGS_OF_HFS {
+        assert_eq!(rt; fault(name, NONE), None, "{name}");
         assert_eq!(rt; fault(name, NTFS), None, "{name}");
         assert_eq!(rt; fault(name, HFS), Some(DotGitDir), "{name}");
+        assert_eq!(rt; fault(name, BOTH), Some(DotGitDir), "{name}");
     }
     for name in [
         ".g\u{200b}it",

@@ -1,20 +1,24 @@
 //! The walk along a pattern and a name.
-ghost use Rattle.std.specs.Prelude.{◌≡◌, ◌≤◌, ◌↔◌, [], ◌∷◌, Some, None, IsTrue, length, IfSome, MatchOption};
+ghost use Rattle.std.specs.Prelude.{◌≡◌, ℕ, ◌+◌, ◌*◌, ◌≤◌, ◌<◌, ◌↔◌, [], ◌∷◌, Some, None, IsTrue, length, MatchOption};
 ghost use Rattle.gx_rules.specs.Pattern.{letters, IsMatch};
-ghost use Rattle.gx_rules.specs.PatternReading.{letter_of, taken, IsAlive, IsSound, StepGives, Shortens};
+ghost use Rattle.gx_rules.specs.PatternReading.{letter_of, taken, IsAlive, IsSound, StepGives, Spends, IsAhead, Passes};
 
 use super::letter::{Letter, read_letter};
 use super::set::read_set;
+use crate::Steps;
+use std::sync::ledger::Ledger;
 
 /// Whether the pattern matches the name. Each time that the walk goes back, it begins one byte of the name
-/// further on, and until the next time it reads each letter of the pattern at most once: so the time is at most
-/// proportional to the product of the two lengths.
-pub(super) fn is_match(pattern: &[u8], name: &[u8]) -> bool
-    ensures { IsTrue result ↔ IsMatch pattern.now name.now }
+/// further on, and until the next time it goes along the pattern at most once.
+pub(super) fn is_match<L: Ledger>(pattern: &[u8], name: &[u8], steps: &mut Steps<L>) -> bool
+    ensures matches { IsTrue result ↔ IsMatch pattern.now name.now }
+    ensures cost { steps.new ≤ steps.old + (length pattern.now + 1) * (length name.now + 1) }
+    ensures counts { steps.old < steps.new }
+    ensures passes { IsTrue result → steps.old + length name.now < steps.new }
 {
     let mut walk = Walk::new(pattern, name);
     loop {
-        match walk.step() {
+        match walk.step(steps) {
             Step::Next(next) => walk = next,
             Step::Done(answer) => return answer,
         }
@@ -54,11 +58,15 @@ impl<'a> Walk<'a> {
         }
     }
 
-    fn step(self) -> Step<'a>
+    /// Asks the next piece of the pattern for the next byte of the name.
+    fn step<L: Ledger>(self, steps: &mut Steps<L>) -> Step<'a>
         requires { IsSound self }
         ensures gives { StepGives self.entry result }
-        ensures shortens { Shortens self.entry result }
+        ensures counts { steps.old < steps.new }
+        ensures spends { Spends self.entry steps.old steps.new result }
+        ensures passes { IsAhead self.entry → Passes self.entry result }
     {
+        steps.tick();
         let Some((letter, rest)) = read_letter(self.pattern) else {
             if self.name.is_empty() {
                 return Step::Done(true);
@@ -76,7 +84,7 @@ impl<'a> Walk<'a> {
         let Some((byte, name)) = self.name.split_first() else {
             return self.retry();
         };
-        match take_piece(letter, rest, *byte) {
+        match take_piece(letter, rest, *byte, steps) {
             Some(pattern) => Step::Next(Walk {
                 pattern,
                 name,
@@ -90,7 +98,8 @@ impl<'a> Walk<'a> {
     /// Behind the last star, which takes one byte more.
     fn retry(self) -> Step<'a>
         ensures gives { ¬ IsMatch self.entry.pattern.now self.entry.name.now → StepGives self.entry result }
-        ensures shortens { Shortens self.entry result }
+        ensures spends { (before after : ℕ) → after ≤ before + length self.entry.pattern.now + 1 → Spends self.entry before after result }
+        ensures passes { IsAhead self.entry → Passes self.entry result }
     {
         match self.from_star.split_first() {
             Some((_, name)) => Step::Next(Walk {
@@ -106,17 +115,25 @@ impl<'a> Walk<'a> {
 
 /// The text behind the piece that begins with the letter, if it is one that takes the byte alone.
 #[tactic(auto, unfolding(crate::specs::PatternReading::taken))]
-fn take_piece(letter: Letter, text: &[u8], byte: u8) -> Option<&[u8]>
+fn take_piece<'a, L: Ledger>(
+    letter: Letter,
+    text: &'a [u8],
+    byte: u8,
+    steps: &mut Steps<L>,
+) -> Option<&'a [u8]>
     ensures taken { MatchOption result
         (taken (letter_of letter ∷ letters text.now) byte ≡ None)
         (λ rest. taken (letter_of letter ∷ letters text.now) byte ≡ Some (letters rest.now)) }
-    ensures shorter { IfSome result (λ rest. length rest.now ≤ length text.now) }
+    ensures cost { MatchOption result
+        (steps.new ≤ steps.old + length text.now)
+        (λ rest. steps.new + length rest.now ≤ steps.old + length text.now) }
+    ensures counts { steps.old ≤ steps.new }
 {
     if letter.is_bare(b'?') {
         return Some(text);
     }
     if letter.is_bare(b'[') {
-        let (takes, rest) = read_set(text, byte)?;
+        let (takes, rest) = read_set(text, byte, steps)?;
         if takes {
             return Some(rest);
         }

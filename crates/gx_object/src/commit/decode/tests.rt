@@ -23,8 +23,8 @@ fn behind_tree(alloc: Global, hash: HashKind, text: &[u8]) -> Result<Vec<u8>, No
     Ok(bytes)
 }
 
-fn behind_committer(alloc: Global, text: &[u8]) -> Result<Vec<u8>, NoMemory> {
-    let mut bytes = behind_tree(alloc, HashKind::Sha1, AUTHOR)?;
+fn behind_committer(alloc: Global, hash: HashKind, text: &[u8]) -> Result<Vec<u8>, NoMemory> {
+    let mut bytes = behind_tree(alloc, hash, AUTHOR)?;
     bytes.extend_from_slice(COMMITTER)?;
     bytes.extend_from_slice(text)?;
     Ok(bytes)
@@ -45,11 +45,18 @@ fn place_behind_tree(alloc: Global, hash: HashKind, text: &[u8]) -> Option<usize
     }
 }
 
-// Where the bytes go wrong behind the committer's line, which ends at 95.
-fn place_behind_committer(alloc: Global, text: &[u8]) -> Option<usize> {
-    match behind_committer(alloc, text) {
-        Ok(bytes) => place(alloc, HashKind::Sha1, &bytes),
-        Err(_) => None,
+// Whether the bytes go wrong so far behind the tree's line, for ids of both kinds. The committer's line ends 49 bytes behind it.
+fn goes_wrong(alloc: Global, text: &[u8], behind: usize) -> bool {
+    goes_wrong_in(alloc, HashKind::Sha1, text, behind)
+        && goes_wrong_in(alloc, HashKind::Sha256, text, behind)
+}
+
+fn goes_wrong_in(alloc: Global, hash: HashKind, text: &[u8], behind: usize) -> bool {
+    match behind_committer(alloc, hash, text) {
+        Ok(bytes) => {
+            place(alloc, hash, &bytes) == Some(tree_line(hash).len().saturating_add(behind))
+        }
+        Err(_) => false,
     }
 }
 
@@ -78,24 +85,35 @@ fn a_parent_in_upper_case_is_refused(rt: HostRuntime) {
 #[test]
 fn a_commit_without_its_empty_line_is_refused(rt: HostRuntime) {
     let alloc = rt.alloc();
-    assert!(rt; place_behind_committer(alloc, b"") == Some(95));
-    assert!(rt; place_behind_committer(alloc, b"a b\n c\n") == Some(102));
-    assert!(rt; place_behind_committer(alloc, b"a b\n c") == Some(99));
+    assert!(rt; goes_wrong(alloc, b"", 49));
+    assert!(rt; goes_wrong(alloc, b"a b\n c\n", 56));
+    assert!(rt; goes_wrong(alloc, b"a b\n c", 53));
 }
 
 #[test]
 fn a_header_without_a_name_is_refused(rt: HostRuntime) {
     let alloc = rt.alloc();
-    assert!(rt; place_behind_committer(alloc, b" a\n\n") == Some(95));
-    assert!(rt; place_behind_committer(alloc, b"a\n\n") == Some(95));
+    assert!(rt; goes_wrong(alloc, b" a\n\n", 49));
+    assert!(rt; goes_wrong(alloc, b"a\n\n", 49));
 }
 
-// The encoding, and how many further headers there are.
+// Whether the encoding is this, and there are so many further headers, for ids of both kinds.
 fn encoding_is(alloc: Global, text: &[u8], wanted: &[u8], headers: usize) -> bool {
-    let Ok(bytes) = behind_committer(alloc, text) else {
+    encoding_is_in(alloc, HashKind::Sha1, text, wanted, headers)
+        && encoding_is_in(alloc, HashKind::Sha256, text, wanted, headers)
+}
+
+fn encoding_is_in(
+    alloc: Global,
+    hash: HashKind,
+    text: &[u8],
+    wanted: &[u8],
+    headers: usize,
+) -> bool {
+    let Ok(bytes) = behind_committer(alloc, hash, text) else {
         return false;
     };
-    match CommitRef::from_bytes(alloc, &bytes, HashKind::Sha1) {
+    match CommitRef::from_bytes(alloc, &bytes, hash) {
         Ok(commit) => {
             let found = match commit.encoding {
                 Some(text) => text.as_bytes(),
@@ -118,10 +136,10 @@ fn an_encoding_is_one_line_behind_the_committer(rt: HostRuntime) {
 
 // The value of the first further header.
 fn first_value_is(alloc: Global, text: &[u8], wanted: &[u8]) -> bool {
-    let Ok(bytes) = behind_committer(alloc, text) else {
+    let Ok(bytes) = behind_committer(alloc, HashKind::Sha256, text) else {
         return false;
     };
-    match CommitRef::from_bytes(alloc, &bytes, HashKind::Sha1) {
+    match CommitRef::from_bytes(alloc, &bytes, HashKind::Sha256) {
         Ok(commit) => match commit.extra_headers.as_slice().first() {
             Some(header) => match header.value(alloc) {
                 Ok(value) => value.as_slice() == wanted,
@@ -141,7 +159,7 @@ fn a_value_lacks_the_spaces_in_front_of_its_lines(rt: HostRuntime) {
 
 #[test]
 fn a_message_is_all_that_stands_behind_the_empty_line(rt: HostRuntime) -> Result<(), NoMemory> {
-    let bytes = behind_committer(rt.alloc(), b"\n\ntree\n\x00\xff")?;
+    let bytes = behind_committer(rt.alloc(), HashKind::Sha1, b"\n\ntree\n\x00\xff")?;
     let message = match CommitRef::from_bytes(rt.alloc(), &bytes, HashKind::Sha1) {
         Ok(commit) => commit.message.as_bytes(),
         Err(_) => b"",
@@ -168,25 +186,32 @@ fn a_merge_has_its_parents_in_order(rt: HostRuntime) -> Result<(), NoMemory> {
 }
 
 // Whether each front of the bytes is refused where its last line begins.
-fn fronts_are_refused(alloc: Global, bytes: &[u8]) -> bool {
+fn fronts_are_refused(alloc: Global, hash: HashKind, bytes: &[u8]) -> bool {
     let mut line = 0;
     for end in 0..bytes.len() {
         if end > 0 && bytes[end - 1] == b'\n' {
             line = end;
         }
-        if place(alloc, HashKind::Sha1, &bytes[..end]) != Some(line) {
+        if place(alloc, hash, &bytes[..end]) != Some(line) {
             return false;
         }
     }
     true
 }
 
+fn only_the_whole_is_read(alloc: Global, hash: HashKind) -> bool {
+    match behind_committer(alloc, hash, b"encoding x\na b\n c\n\n") {
+        Ok(bytes) => {
+            fronts_are_refused(alloc, hash, &bytes) && place(alloc, hash, &bytes).is_none()
+        }
+        Err(_) => false,
+    }
+}
+
 #[test]
-fn each_front_of_a_commit_is_refused(rt: HostRuntime) -> Result<(), NoMemory> {
-    let bytes = behind_committer(rt.alloc(), b"encoding x\na b\n c\n\n")?;
-    assert!(rt; fronts_are_refused(rt.alloc(), &bytes));
-    assert!(rt; place(rt.alloc(), HashKind::Sha1, &bytes) == None);
-    Ok(())
+fn each_front_of_a_commit_is_refused(rt: HostRuntime) {
+    assert!(rt; only_the_whole_is_read(rt.alloc(), HashKind::Sha1));
+    assert!(rt; only_the_whole_is_read(rt.alloc(), HashKind::Sha256));
 }
 
 // How many parts come before the refusal, and its place.
@@ -215,7 +240,7 @@ fn parts_come_before_the_refusal(rt: HostRuntime) -> Result<(), NoMemory> {
 
 #[test]
 fn parts_of_a_commit_end_with_its_message(rt: HostRuntime) -> Result<(), NoMemory> {
-    let bytes = behind_committer(rt.alloc(), b"encoding x\na b\n c\n\nm")?;
+    let bytes = behind_committer(rt.alloc(), HashKind::Sha1, b"encoding x\na b\n c\n\nm")?;
     let items = CommitRefIter::from_bytes(&bytes, HashKind::Sha1);
     assert!(rt; parts_before(items) == (6, None));
     assert!(rt; items.committer().is_ok());

@@ -1,5 +1,5 @@
 use Rattle.gx_object.proofs.CommitPlace.{stuck_parents}
 use Rattle.gx_object.proofs.commit.iter.parent_or_author.Goals as goal
 
-pub returns-in_err-signature : goal.returns-in_err-signature
-returns-in_err-signature c = rw c.from_residual.ensures (stuck_parents c.args.hash c.args.bytes.now c.in_default.ensures c.in_err-signature.ensures)
+pub returns-in_err-signature-clause-item : goal.returns-in_err-signature-clause-item
+returns-in_err-signature-clause-item c = rw c.from_residual.ensures (stuck_parents c.args.hash c.args.bytes.now c.in_default.ensures c.in_err-signature.ensures)

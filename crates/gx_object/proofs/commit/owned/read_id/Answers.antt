@@ -4,5 +4,8 @@ use Rattle.gx_object.proofs.commit.owned.read_id.Goals as goal
 pub unwrap-requires : goal.unwrap-requires
 unwrap-requires c = named_is_read c.requires.0 c.args.text.now c.from_hex.result c.requires.1 c.from_hex.ensures
 
-pub returns : goal.returns
-returns c = (named_is c.requires.0 c.args.text.now c.from_hex.result c.unwrap.result c.requires.1 c.from_hex.ensures c.unwrap.ensures).0
+pub returns-clause-digits : goal.returns-clause-digits
+returns-clause-digits c = (named_is c.requires.0 c.args.text.now c.from_hex.result c.unwrap.result c.requires.1 c.from_hex.ensures c.unwrap.ensures).0
+
+pub returns-clause-kind : goal.returns-clause-kind
+returns-clause-kind c = λ hash id. (named_is hash c.args.text.now c.from_hex.result c.unwrap.result id c.from_hex.ensures c.unwrap.ensures).1

@@ -1,4 +1,5 @@
 use Rattle.std.proofs.Common.{◌≡◌, ◌<◌, ◌-◌, length, arith}
+use Rattle.gx_object.proofs.TreeKinds.{tree_kind}
 use Rattle.gx_object.proofs.TreeReading.{reads_more, reads_all, reads_bad}
 use Rattle.gx_object.proofs.TreeFronts.{bad_place, tree_once}
 use Rattle.gx_object.proofs.tree.decode.TreeRef.from_bytes.Goals as goal
@@ -23,3 +24,9 @@ returns-clause-only c =
     let none : length c.loop-rest.rest.now ≡ 0 = grind (arith, c.loop-rest-test.ensures, c.loop-rest-test.false) in
     let tree = reads_all _ _ _ _ c.loop-rest.invariant none in
     λ entries other. rw c.from_vec.ensures (tree_once _ _ _ entries tree other)
+
+pub returns-clause-kind : goal.returns-clause-kind
+returns-clause-kind c =
+    let none : length c.loop-rest.rest.now ≡ 0 = grind (arith, c.loop-rest-test.ensures, c.loop-rest-test.false) in
+    let tree = reads_all _ _ _ _ c.loop-rest.invariant none in
+    rw c.from_vec.ensures (tree_kind _ _ _ tree)

@@ -6,19 +6,19 @@ use Rattle.gx_rules.proofs.PatternMatching.{both_end, ended, star_is, star_onwar
 use Rattle.gx_rules.proofs.pattern.matching.Walk.step.Goals as goal
 
 pub returns-then-is_empty-clause-gives : goal.returns-then-is_empty-clause-gives
-returns-then-is_empty-clause-gives c =
+returns-then-is_empty-clause-gives g c =
     let walk = c.args.self in
     let empty : length walk.name.now ≡ 0 = eqb-true (length walk.name.now) 0 (sym c.if-is_empty.ensures) in
     (λ _. inl (both_end (letters walk.pattern.now) walk.name.now c.in_default.ensures.letters empty), λ _. refl)
 
 pub returns-in_default-clause-gives : goal.returns-in_default-clause-gives
-returns-in_default-clause-gives c =
+returns-in_default-clause-gives g c =
     let walk = c.args.self in
     let more = eqb-false (length walk.name.now) 0 (sym c.if-is_empty.ensures) in
     c.retry.ensures.gives (ended (letters walk.pattern.now) walk.name.now c.in_default.ensures.letters (omega arith))
 
 pub returns-then-is_bare-clause-gives : goal.returns-then-is_bare-clause-gives
-returns-then-is_bare-clause-gives c =
+returns-then-is_bare-clause-gives g c =
     let walk = c.args.self in
     let all = letters walk.pattern.now in
     let rest = letters c.in-Some.rest.now in
@@ -31,13 +31,13 @@ returns-then-is_bare-clause-gives c =
     }
 
 pub returns-in_default-split_first-clause-gives : goal.returns-in_default-split_first-clause-gives
-returns-in_default-split_first-clause-gives c =
+returns-in_default-split_first-clause-gives g c =
     let walk = c.args.self in
     let none = c.in_default-split_first.ensures.cases in
     c.retry-in_default-split_first.ensures.gives (needs_byte (letter_of c.in-Some.letter) (letters walk.pattern.now) (letters c.in-Some.rest.now) walk.name.now c.in-Some.ensures.letters (cc) (omega arith))
 
 pub returns-in-Some-take_piece-clause-gives : goal.returns-in-Some-take_piece-clause-gives
-returns-in-Some-take_piece-clause-gives c =
+returns-in-Some-take_piece-clause-gives g c =
     let walk = c.args.self in
     let all = letters walk.pattern.now in
     let rest = letters c.in-Some-take_piece.pattern.now in
@@ -53,6 +53,13 @@ returns-in-Some-take_piece-clause-gives c =
     }
 
 pub returns-in-None-clause-gives : goal.returns-in-None-clause-gives
-returns-in-None-clause-gives c =
+returns-in-None-clause-gives g c =
     let walk = c.args.self in
     c.retry-in-None.ensures.gives (takes_none (letter_of c.in-Some.letter) (letters walk.pattern.now) (letters c.in-Some.rest.now) c.in-Some-split_first.byte.now walk.name.now c.in-Some-split_first.name.now c.in-Some.ensures.letters (cc) c.in-None.ensures.taken c.in-Some-split_first.ensures.cases.0)
+
+pub returns-in-None-clause-spends : goal.returns-in-None-clause-spends
+returns-in-None-clause-spends g c =
+    let told = c.in-None.ensures.cost in
+    let shorter = c.in-Some.ensures.shorter in
+    let ticked = c.tick.ensures in
+    c.retry-in-None.ensures.spends c.args.steps.now c.take_piece.new.steps (omega (arith, told, shorter, ticked))

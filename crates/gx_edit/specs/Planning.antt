@@ -1,0 +1,139 @@
+-- How the trees of a path map are planned before any is written.
+use Rattle.std.specs.Prelude.{◌≡◌, ℕ, Bool, false, ◌&&◌, ◌≤◌, ◌<◌, ◌+◌, ◌-◌, List, [], ◌∷◌, ◌++◌, map, drop, length, bytes_eq}
+use Rattle.std.specs.List.{prefix_len, AllByRecursion}
+use Rattle.gx_hash.specs.declared.kind.HashKind.{HashKind}
+use Rattle.gx_hash.specs.declared.oid.ObjectId.{ObjectId}
+use Rattle.gx_object.specs.declared.kind.Kind.{Kind}
+use Rattle.gx_object.specs.declared.kind.Kind.TheVariants as object_kind
+use Rattle.gx_object.specs.declared.tree.Entry.{Entry}
+use Rattle.gx_object.specs.declared.tree.EntryKind.TheVariants as entry_kind
+use Rattle.gx_object.specs.Mode.{mode_of}
+use Rattle.gx_object.specs.Tree.{tree_bytes}
+use Rattle.gx_store.specs.Content.{id_of}
+use Rattle.gx_edit.specs.Path.{Path, components}
+use Rattle.gx_edit.specs.PathList.{PathList}
+use Rattle.gx_edit.specs.CanonicalTree.{Directory, entries_of, root_of, trees_of, tree_of}
+use Rattle.gx_edit.specs.CanonicalTree.Directory.{End, File, Sub}
+use Rattle.gx_edit.specs.WritePlain.{entries_within}
+use Rattle.gx_edit.specs.declared.leaf.Leaf.{Leaf}
+use Rattle.gx_edit.specs.declared.path_map.entries.PathEntry.{PathEntry}
+use Rattle.gx_edit.specs.declared.writing.groups.Row.{Row}
+use Rattle.gx_edit.specs.declared.writing.plan.PlannedTree.{PlannedTree}
+use Rattle.gx_edit.specs.declared.writing.plan.Plan.{Plan}
+
+-- ---- the leaves of a directory, in turn
+
+abbrev pub under : List ℕ → Path × Leaf → Path × Leaf
+under n row = (n ∷ row.0, row.1)
+
+abbrev pub leaves_of : Directory → List (Path × Leaf)
+leaves_of End = []
+leaves_of (File n leaf rest) = (n ∷ [], leaf) ∷ leaves_of rest
+leaves_of (Sub n inner rest) = map (under n) (leaves_of inner) ++ leaves_of rest
+
+-- one directory's entries and then another's
+abbrev pub joined : Directory → Directory → Directory
+joined End e = e
+joined (File n leaf rest) e = File n leaf (joined rest e)
+joined (Sub n inner rest) e = Sub n inner (joined rest e)
+
+-- ---- the rows of a map, below a directory whose path and slash take their first bytes
+
+abbrev pub row_at : ℕ → Row → Path × Leaf
+row_at at r = (components (drop at r.path.items), r.leaf)
+
+abbrev pub rows_at : ℕ → List Row → List (Path × Leaf)
+rows_at at rs = map (row_at at) rs
+
+-- the rows as a path list
+abbrev pub texts_of : List Row → PathList
+texts_of rs = map (λ r. (r.path.items, r.leaf)) rs
+
+-- an entry of a map as a row of its list
+abbrev pub shown : PathEntry → List ℕ × Leaf
+shown e = (e.path.now, record { mode = e.mode; id = e.id })
+
+-- each path is at least so long
+abbrev pub Reach : ℕ → List Row → Type 0
+Reach at = AllByRecursion (λ r. at ≤ length r.path.items)
+
+-- how many bytes of paths are left, and how many rows
+abbrev pub load : ℕ → List Row → ℕ
+load at [] = 0
+load at (r ∷ rs) = 1 + (length r.path.items - at) + load at rs
+
+-- the path goes through the directory n
+abbrev pub goes_into : List ℕ → Path → Bool
+goes_into n [] = false
+goes_into n (c ∷ []) = false
+goes_into n (c ∷ d ∷ p) = bytes_eq c n
+
+-- how many rows from the first on go into n
+abbrev pub run : List ℕ → List (Path × Leaf) → ℕ
+run n = prefix_len (λ r. goes_into n r.0)
+
+-- the rows at the front that go into the directory of this name, and those behind them
+pub record IsFrontGroup (at : ℕ) (rs : List Row) (name : List ℕ) (group after : List Row) : Type 0 where
+  pub some : 0 < length group
+  pub counted : run name (rows_at at rs) ≡ length group
+  pub split : rows_at at rs ≡ map (under name) (rows_at (at + length name + 1) group) ++ rows_at at after
+  pub reach : Reach (at + length name + 1) group
+  pub reach_after : Reach at after
+  pub lighter : load (at + length name + 1) group + load at after < load at rs
+
+-- ---- what is planned
+
+-- trees with their ids, and the entries in them
+pub record Made : Type 0 where
+  pub trees : List PlannedTree
+  pub entries : List Entry
+
+abbrev pub made : Plan → Made
+made plan = record { trees = plan.trees.items; entries = plan.entries.items }
+
+abbrev pub nothing_made : Made
+nothing_made = record { trees = []; entries = [] }
+
+abbrev pub planned : HashKind → Kind × List ℕ → PlannedTree
+planned hash tree = record { id = id_of hash tree; bytes = tree.1 }
+
+abbrev pub with_tree : PlannedTree → Made → Made
+with_tree tree m = record { trees = m.trees ++ tree ∷ []; entries = m.entries }
+
+abbrev pub with_entry : Entry → Made → Made
+with_entry entry m = record { trees = m.trees; entries = m.entries ++ entry ∷ [] }
+
+abbrev pub tree_entry : List ℕ → ObjectId → Entry
+tree_entry n id = record { mode = record { value = mode_of entry_kind.Tree }; filename = n; oid = id }
+
+-- each tree has its id
+abbrev pub ArePlanned : HashKind → List PlannedTree → Type 0
+ArePlanned hash trees = AllByRecursion (λ tree. tree.id ≡ id_of hash (object_kind.Tree, tree.bytes)) trees
+
+abbrev pub objects_of : List PlannedTree → List (Kind × List ℕ)
+objects_of trees = map (λ tree. (object_kind.Tree, tree.bytes)) trees
+
+-- what is made behind other things as the entries of a directory are gone through
+abbrev pub made_below : HashKind → Directory → Made → Made
+made_below hash End m = m
+made_below hash (File n leaf rest) m = made_below hash rest (with_entry (record { mode = leaf.mode; filename = n; oid = leaf.id }) m)
+made_below hash (Sub n inner rest) m = made_below hash rest (with_entry (tree_entry n (root_of hash inner)) (with_tree (planned hash (tree_of hash inner)) (made_below hash inner m)))
+
+-- the directory is gone through, and its own tree made
+abbrev pub made_all : HashKind → Directory → Made → Made
+made_all hash directory m = with_tree (planned hash (tree_of hash directory)) (made_below hash directory m)
+
+-- A directory is gone through but for these rows.
+pub record IsAtRow (hash : HashKind) (old new : Made) (ahead : List (Path × Leaf)) (bytes : List ℕ) (directory : Directory) : Type 0 where
+  pub done : Directory
+  pub rest : Directory
+  pub whole : directory ≡ joined done rest
+  pub left : leaves_of rest ≡ ahead
+  pub bytes_so_far : bytes ≡ tree_bytes (entries_of hash done)
+  pub made_so_far : new ≡ made_below hash done old
+
+-- The plan of a directory has its trees, children first, each with its id, and the entries of them all.
+pub record IsPlan (hash : HashKind) (directory : Directory) (plan : Plan) (root : ObjectId) : Type 0 where
+  pub trees : plan.trees.items ≡ map (planned hash) (trees_of hash directory)
+  pub entries : plan.entries.items ≡ entries_within hash directory
+  pub is_root : root ≡ root_of hash directory

@@ -1,0 +1,9 @@
+use Rattle.std.proofs.Common.{subst}
+use Rattle.hex.specs.Hex.{IsBytes}
+use Rattle.gx_object.proofs.IdDigits.{id_digits}
+use Rattle.gx_object.proofs.laws.id_has_digits.Goals as goal
+
+pub returns : goal.returns
+returns c =
+    let bytes = c.as_bytes.ensures in
+    id_digits c.args.id.now (rw bytes.bytes at bytes.len) (subst IsBytes bytes.bytes c.are_bytes.ensures)

@@ -1,0 +1,8 @@
+use Rattle.gx_object.proofs.WrittenTags.{tag_spelled, tag_copy}
+use Rattle.gx_object.proofs.laws.written_tag_is_read.Goals as goal
+
+pub returns-clause-spelled : goal.returns-clause-spelled
+returns-clause-spelled c = tag_spelled
+
+pub returns-clause-copy : goal.returns-clause-copy
+returns-clause-copy c = tag_copy

@@ -1,0 +1,116 @@
+use crate::objects::ProbeError;
+use gx_edit::{EditError, PathMap, read_map, write_plain};
+use gx_hash::{HashKind, NoMemory, ObjectId};
+use gx_object::EntryKind;
+use gx_store::{Memory, StoreError};
+use std::alloc::Global;
+
+impl From<EditError> for ProbeError {
+    fn from(error: EditError) -> ProbeError {
+        match error {
+            EditError::NoMemory => ProbeError::NoMemory,
+            _ => ProbeError::Unwritable,
+        }
+    }
+}
+
+impl From<StoreError> for ProbeError {
+    fn from(error: StoreError) -> ProbeError {
+        match error {
+            StoreError::NoMemory => ProbeError::NoMemory,
+            StoreError::Fault { .. } => ProbeError::Unwritable,
+        }
+    }
+}
+
+/// The root of the path map that the lines list, on a line.
+pub fn write_root(alloc: Global, input: &[u8], hash: HashKind) -> Result<Vec<u8>, ProbeError> {
+    let mut store = Memory::new(alloc, hash)?;
+    let root = stored_root(alloc, &mut store, input, hash)?;
+    Ok(line_of(alloc, &root)?)
+}
+
+fn line_of(alloc: Global, id: &ObjectId) -> Result<Vec<u8>, NoMemory> {
+    let mut line = Vec::new(alloc);
+    id.push_hex(&mut line)?;
+    line.push(b'\n')?;
+    Ok(line)
+}
+
+/// The lines of the path map that the stored root of the lines has.
+pub fn reread(alloc: Global, input: &[u8], hash: HashKind) -> Result<Vec<u8>, ProbeError> {
+    let mut store = Memory::new(alloc, hash)?;
+    let root = stored_root(alloc, &mut store, input, hash)?;
+    let map = read_map(alloc, &store, root)?;
+    Ok(listed(alloc, &map)?)
+}
+
+fn stored_root(
+    alloc: Global,
+    store: &mut Memory,
+    input: &[u8],
+    hash: HashKind,
+) -> Result<ObjectId, ProbeError> {
+    let mut map = PathMap::new(alloc);
+    for line in input
+        .strip_suffix(b"\n")
+        .unwrap_or(input)
+        .split(|byte| *byte == b'\n')
+    {
+        put_line(&mut map, line, hash)?;
+    }
+    Ok(write_plain(alloc, store, &map, None)?)
+}
+
+/// Puts a line's leaf. A line is a mode, a space, an id, a tab and a path, and may be empty.
+fn put_line(map: &mut PathMap, line: &[u8], hash: HashKind) -> Result<(), ProbeError> {
+    if line.is_empty() {
+        return Ok(());
+    }
+    let Some((head, path)) = split_once(line, b'\t') else {
+        return Err(ProbeError::BadLine);
+    };
+    let Some((mode, digits)) = split_once(head, b' ') else {
+        return Err(ProbeError::BadLine);
+    };
+    let (Some(kind), Ok(id)) = (kind_of(mode), ObjectId::from_hex(digits)) else {
+        return Err(ProbeError::BadLine);
+    };
+    if id.kind() != hash || id.is_null() || matches!(kind, EntryKind::Tree) {
+        return Err(ProbeError::BadLine);
+    }
+    Ok(map.put(path, kind, id)?)
+}
+
+fn split_once(bytes: &[u8], end: u8) -> Option<(&[u8], &[u8])> {
+    let at = bytes.iter().position(|byte| *byte == end)?;
+    Some((&bytes[..at], &bytes[at + 1..]))
+}
+
+/// The kind of a leaf with this mode.
+fn kind_of(mode: &[u8]) -> Option<EntryKind> {
+    for kind in [
+        EntryKind::Blob,
+        EntryKind::BlobExecutable,
+        EntryKind::Link,
+        EntryKind::Commit,
+    ] {
+        if kind.as_octal_str().as_bytes() == mode {
+            return Some(kind);
+        }
+    }
+    None
+}
+
+fn listed(alloc: Global, map: &PathMap) -> Result<Vec<u8>, NoMemory> {
+    let mut lines = Vec::new(alloc);
+    for entry in map.iter() {
+        lines.extend_from_slice(entry.mode.kind().as_octal_str().as_bytes())?;
+        lines.push(b' ')?;
+        entry.id.push_hex(&mut lines)?;
+        lines.push(b'\t')?;
+        lines.extend_from_slice(entry.path)?;
+        lines.push(b'\n')?;
+    }
+    Ok(lines)
+}

@@ -1,0 +1,5 @@
+pub mod Errors
+pub mod Chain
+pub mod Log
+pub mod Moving
+pub mod Laws
