@@ -90,11 +90,12 @@ ends() {
 informs --version
 informs --help
 cp -- "$scratch/printed" "$usage"
-explains --memory apply --help --version
+explains --memory --memory-sha256 apply --help --version
 explains status 0 1 2 3 4 5 6 7 8 9
 
 rejects "no words" 6 "$usage"
 rejects "a store alone" 6 "$usage" --memory
+rejects "a store of SHA-256 alone" 6 "$usage" --memory-sha256
 rejects "an unknown word" 6 "$usage" --memory forget
 rejects "--help behind a store" 6 "$usage" --memory --help
 rejects "a word too many" 6 "$usage" --memory apply again

@@ -1,10 +1,18 @@
-pub mod AdmitLemmas
-pub mod CauseLemmas
-pub mod CommitLemmas
-pub mod Growth
-pub mod MachineLemmas
-pub mod PlainLemmas
-pub mod ServedLemmas
-pub mod SupportLemmas
-pub mod TopLevelLemmas
-pub mod WritingLemmas
+mod BaseLemmas
+mod CommitLemmas
+mod EditLemmas
+mod Growth
+mod HistoryLemmas
+mod MachineLemmas
+mod MadeLemmas
+mod NewMaps
+mod NoCauseLemmas
+mod OnceLemmas
+mod PlanLemmas
+mod ReferenceLemmas
+mod StepLemmas
+mod Told
+mod TreeLemmas
+mod ValidLemmas
+mod WriteLemmas
+mod ZeroLemmas

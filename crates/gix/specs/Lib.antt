@@ -1,8 +1,14 @@
+pub mod Admission
+pub mod Base
+pub mod Causes
 pub mod CommitEdits
 pub mod CommitRequest
+pub mod History
+pub mod Lifting
 pub mod Log
 pub mod Machine
+pub mod Reference
 pub mod Repository
-pub mod Support
-pub mod TopLevel
-pub mod Writing
+pub mod Stages
+pub mod Trees
+pub mod View

@@ -1,24 +1,21 @@
 -- The repository machine, where commits are concerned: which answer a request may get, and what the repository is then.
-use Rattle.std.specs.Prelude.{◌≡◌, [], ◌∷◌, Option, Some, None}
+use Rattle.std.specs.Prelude.{◌≡◌, Option, Some, None}
 use Rattle.gx_hash.specs.declared.kind.HashKind.{HashKind}
 use Rattle.gx_hash.specs.declared.oid.ObjectId.{ObjectId}
 use Rattle.gx_store.specs.Content.{Content, HoldsAll, Adds, AreApart}
-use Rattle.gx_store.specs.Change.{refs_after}
 use Rattle.gx_store.specs.State.{RefState, StoreState}
-use Rattle.gx_edit.specs.PathMap.{no_paths, edited}
-use Rattle.gx_edit.specs.CanonicalTree.{Directory, StandsFor, Represents, root_of}
+use Rattle.gx_edit.specs.PathMap.{PathMap, edited}
+use Rattle.gx_edit.specs.CanonicalTree.{Directory, Represents, root_of}
+use Rattle.gix.specs.declared.settings.Settings.{Settings}
+use Rattle.gix.specs.declared.error.CommitEditsError.{CommitEditsError}
+use Rattle.gix.specs.declared.error.CommitEditsError.TheVariants.{Store, NoMemory}
 use Rattle.gix.specs.CommitRequest.{CommitRequest}
-use Rattle.gix.specs.Log.{is_due}
-use Rattle.gix.specs.CommitEdits.{IsAdmitted, Cause, commit_id, commit_change, written_objects}
-use Rattle.gix.specs.declared.commit_edits.CommitEditsError.{CommitEditsError}
-use Rattle.gix.specs.declared.commit_edits.CommitEditsError.TheVariants.{Unsupported, EmptyPathComponent, MustNotExist, NameConflict, Store, NoMemory}
-
--- A state of the machine: objects, and references with their logs. (gitrepository-layout)
-pub record State : Type 0 where
-  -- the kind of every id
-  pub hash : HashKind
-  pub content : Content
-  pub references : RefState
+use Rattle.gix.specs.View.{State, whole}
+use Rattle.gix.specs.Base.{IsBase}
+use Rattle.gix.specs.Reference.{Way, moved_to}
+use Rattle.gix.specs.Admission.{IsAdmitted}
+use Rattle.gix.specs.Causes.{Cause}
+use Rattle.gix.specs.CommitEdits.{commit_id, written_objects}
 
 abbrev pub state_told : HashKind → Option Content → Option RefState → Option State
 state_told hash None references = None
@@ -39,28 +36,27 @@ BothTold R (Some old) (Some new) = R old new
 abbrev pub WhereTold : (State → State → Type 0) → StoreState → StoreState → Type 0
 WhereTold R old new = BothTold R (state_of old) (state_of new)
 
--- A commit is accepted: it may be made, and its id is that of the commit over the root of the edited map. The content gains the blobs of its edits, the canonical trees of that map and the commit, each where its id is absent, and nothing else. The reference comes to name the commit, its log gets a line where one is due, and no other reference or log is changed. Where no two different objects share an id, and none has the null id, all of these objects are stored, and so the tree represents the edited map. (git-commit-tree(1), git-update-ref(1), git-config(1) "core.logAllRefUpdates")
-pub record Accepts (r : CommitRequest) (old : State) (id : ObjectId) (new : State) : Type 0 where
-  pub admitted : IsAdmitted r (Some old.references)
+-- A commit is accepted: it may be made, and its id is that of the commit over the root of the directory that its edits make of its base. The content gains the blobs of its edits, the canonical trees of that directory and the commit, each where its id is absent, and nothing else. The end of its reference's way comes to name the commit, each log on the way gets a line where one is due, and no other reference or log is changed. Where no two different objects share an id, and none has the null id, all of these objects are stored, and so the tree represents what the edits make of the base. (git-commit-tree(1), git-update-ref(1), git-config(1) "core.logAllRefUpdates")
+pub record Accepts (settings : Settings) (r : CommitRequest) (old : State) (id : ObjectId) (new : State) : Type 0 where
   pub directory : Directory
-  pub stands : StandsFor directory (edited old.hash no_paths r.edits)
+  pub way : Way
+  pub admitted : IsAdmitted settings r (whole old) directory way
+  pub base : PathMap
+  pub is_base : IsBase (whole old) r.parents base
   pub is_id : id ≡ commit_id old.hash r directory
   pub hash : new.hash ≡ old.hash
   pub adds : Adds old.hash (written_objects old.hash r directory) old.content new.content
   pub stored : AreApart old.hash old.content (written_objects old.hash r directory) → HoldsAll old.hash (written_objects old.hash r directory) new.content
-  pub represents : AreApart old.hash old.content (written_objects old.hash r directory) → Represents old.hash new.content (root_of old.hash directory) (edited old.hash no_paths r.edits)
-  pub references : new.references ≡ refs_after (commit_change old.hash r id (is_due old.references.logs r.reference) ∷ []) old.references
+  pub represents : AreApart old.hash old.content (written_objects old.hash r directory) → Represents old.hash new.content (root_of old.hash directory) (edited old.hash base r.edits)
+  pub references : new.references ≡ moved_to old.hash r way id old.references
 
 -- A commit is refused: the cause of the refusal holds, and nothing is changed.
-pub record Refuses (r : CommitRequest) (old : State) (refusal : CommitEditsError) (new : State) : Type 0 where
-  pub cause : Cause r (Some old.references) refusal
+pub record Refuses (settings : Settings) (r : CommitRequest) (old : State) (refusal : CommitEditsError) (new : State) : Type 0 where
+  pub cause : Cause settings r (whole old) refusal
   pub same : new ≡ old
 
 -- an answer of the machine, and no fault of a store or want of memory
 abbrev pub IsRefusal : CommitEditsError → Type 0
-IsRefusal Unsupported = Unit {0}
-IsRefusal (EmptyPathComponent path) = Unit {0}
-IsRefusal (MustNotExist name actual) = Unit {0}
-IsRefusal (NameConflict name other) = Unit {0}
 IsRefusal (Store fault) = ⊥
 IsRefusal NoMemory = ⊥
+IsRefusal refusal = Unit {0}

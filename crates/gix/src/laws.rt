@@ -1,20 +1,64 @@
 //! What the definitions of commits say of one another, for proofs. The functions do nothing.
 
-ghost use Rattle.std.specs.Prelude.{Option, Some};
-ghost use Rattle.gx_hash.specs.declared.kind.HashKind.{HashKind};
-ghost use Rattle.gx_store.specs.State.{RefState};
-ghost use Rattle.gx_edit.specs.PathMap.{no_paths, edited};
-ghost use Rattle.gx_edit.specs.CanonicalTree.{Directory, StandsFor};
+ghost use Rattle.std.specs.Prelude.{◌≡◌, List, ◌∷◌, Option, Some, Result, Ok, IfOk, IfErr, Contains};
+ghost use Rattle.gx_hash.specs.HashKind.{kind_of};
+ghost use Rattle.gx_hash.specs.declared.oid.ObjectId.{ObjectId};
+ghost use Rattle.gx_store.specs.State.{StoreState};
+ghost use Rattle.gx_edit.specs.CanonicalTree.{Directory};
+ghost use Rattle.gix.specs.declared.settings.Settings.{Settings};
+ghost use Rattle.gix.specs.declared.error.CommitEditsError.{CommitEditsError};
+ghost use Rattle.gix.specs.declared.error.CommitEditsError.TheVariants.{NoMemory as no_memory};
+ghost use Rattle.gix.specs.CommitEdits.{Commits, Leaves};
 ghost use Rattle.gix.specs.CommitRequest.{CommitRequest};
-ghost use Rattle.gix.specs.CommitEdits.{IsAdmitted, Cause};
-ghost use Rattle.gix.specs.declared.commit_edits.CommitEditsError.{CommitEditsError};
+ghost use Rattle.gix.specs.View.{State, whole, view_of};
+ghost use Rattle.gix.specs.Base.{IsMapOf};
+ghost use Rattle.gix.specs.Trees.{Makes};
+ghost use Rattle.gix.specs.Reference.{Way};
+ghost use Rattle.gix.specs.Admission.{IsAdmitted, IsValidCommit};
+ghost use Rattle.gix.specs.Causes.{Cause, CommitEditsCauses, IsFaultless};
+ghost use Rattle.gix.specs.History.{Call, CallStep, History, IsEmpty, IsLine, IsWholeId, line_map};
+
+use gx_hash::ObjectId;
 
 /// A request that may be made has no cause to be refused.
 pub fn admitted_has_no_cause()
-    ensures { (r : CommitRequest) (refs : RefState) (e : CommitEditsError) → IsAdmitted r (Some refs) → Cause r (Some refs) e → ⊥ }
+    ensures { (settings : Settings) (r : CommitRequest) (state : State) (directory : Directory) (way : Way) (e : CommitEditsError)
+        → IsAdmitted settings r (whole state) directory way → Cause settings r (whole state) e → ⊥ }
 {}
 
-/// A request that may be made has a canonical directory.
-pub fn admitted_has_a_directory()
-    ensures { (r : CommitRequest) (references : Option RefState) (hash : HashKind) → IsAdmitted r references → (directory : Directory) × StandsFor directory (edited hash no_paths r.edits) }
+/// A valid request may be made.
+pub fn valid_is_admitted()
+    ensures { (settings : Settings) (r : CommitRequest) (state : State) (directory : Directory)
+        → IsValidCommit settings r state → Makes r (whole state) directory → (way : Way) × IsAdmitted settings r (whole state) directory way }
 {}
+
+/// A valid request is refused for want of memory alone, where a store tells its state, can be read, and counts no fault.
+pub fn valid_is_made()
+    ensures { (settings : Settings) (r : CommitRequest) (state : State) (old new : StoreState) (e : CommitEditsError)
+        → view_of old ≡ whole state → IsFaultless old new → IsValidCommit settings r state → CommitEditsCauses settings r old new e → e ≡ no_memory }
+{}
+
+/// From an empty repository on, the path map of each commit that was accepted, or that a refused request left stored, is that of the edits along its first-parent line. There is such a line that begins with the commit's own request, and of every line this holds.
+pub fn map_of_first_parent_line()
+    ensures accepted { (settings : Settings) (start end : State) (calls : List Call) → IsEmpty start → History settings start calls end → (call : Call) (id : ObjectId) → Contains calls call → call.answer ≡ Ok id
+        → (earlier : List CommitRequest) × IsLine calls id (call.request ∷ earlier) × IsMapOf end.hash end.content id (line_map end.hash (call.request ∷ earlier)) }
+    ensures stored { (settings : Settings) (start end : State) (calls : List Call) → IsEmpty start → History settings start calls end → (call : Call) (id : ObjectId) → Contains calls call → call.stored ≡ Some id
+        → (earlier : List CommitRequest) × IsLine calls id (call.request ∷ earlier) × IsMapOf end.hash end.content id (line_map end.hash (call.request ∷ earlier)) }
+    ensures every { (settings : Settings) (start end : State) (calls : List Call) → IsEmpty start → History settings start calls end → (id : ObjectId) (line : List CommitRequest) → IsLine calls id line
+        → IsMapOf end.hash end.content id (line_map end.hash line) }
+{}
+
+/// What `commit_edits` promises of a call, over a store that tells its state before and after, makes the call a step of a history.
+pub fn call_is_a_step()
+    ensures { (settings : Settings) (r : CommitRequest) (old new : StoreState) (before after : State) (answer : Result ObjectId CommitEditsError)
+        → view_of old ≡ whole before → view_of new ≡ whole after → IfOk answer (λ id. Commits settings r old id new) → IfErr answer (Leaves settings r old new)
+        → (stored : Option ObjectId) × CallStep settings (record { request = r; answer = answer; stored = stored }) before after }
+{}
+
+/// Every id of a program is whole, so that a history's premises ask of ids only that they are of the repository's kind.
+pub fn ids_are_whole(id: &ObjectId)
+    ensures { IsWholeId (kind_of id.now) id.now }
+{
+    gx_hash::laws::spellings_read_back(id);
+    gx_object::laws::id_has_digits(id);
+}

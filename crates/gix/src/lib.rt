@@ -1,21 +1,28 @@
 //! The repository: commits of edits over any store.
 //!
 //! A call is answered in one of two ways. Either all was done, and the clause for Ok says what the store then
-//! means; or an error tells why not, and what was left behind. Whatever an error leaves, the call has let no
-//! reference name an object that is not stored: objects come first, each behind all that it names.
+//! means; or an error tells why not, and what was left behind. Whatever an error leaves, the call lets no
+//! reference name a commit before that is stored: objects come first, each behind all that it names.
+//!
+//! A commit goes through five stages: its base, its edits, its trees, its identities and its reference. All of them
+//! are passed before the first write, so that a request with a fault of its own leaves nothing behind.
 #![tactic(auto)]
 
+mod base;
 mod commit_edits;
+mod edits;
+mod error;
 pub mod laws;
 mod log;
-#[cfg(test)]
-mod plain;
+mod plan;
+mod reference;
 mod repository;
+mod request;
 mod settings;
-mod support;
-mod top_level;
 mod write;
 
-pub use commit_edits::CommitEditsError;
+pub use commit_edits::NO_PARENT_IDS;
+pub use error::CommitEditsError;
+pub use gx_edit::PathEdit;
 pub use repository::Repository;
 pub use settings::Settings;

@@ -11,7 +11,7 @@ use gx_store::Store;
 #[derive(Drop)]
 pub struct Repository<S> {
     pub(crate) store: S,
-    settings: Settings,
+    pub(crate) settings: Settings,
 }
 
 impl<S: Store> Repository<S> {
@@ -33,6 +33,15 @@ impl<S: Store> Repository<S> {
         ensures { result.now ≡ settings_of self.now }
     {
         &self.settings
+    }
+
+    /// Takes other settings, and gives back those from before.
+    pub fn set_settings(&mut self, settings: Settings) -> Settings
+        ensures settings { settings_of self.new ≡ settings }
+        ensures before { result ≡ settings_of self.old }
+        ensures store { store_of self.new ≡ store_of self.old }
+    {
+        std::mem::replace(&mut self.settings, settings)
     }
 
     /// The kind of every id in the repository.

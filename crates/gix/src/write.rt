@@ -1,68 +1,107 @@
-//! What a commit writes: blobs, trees, and the commit itself.
+//! What a commit writes, each object behind all that it names: blobs, trees, the commit.
 
-ghost use Rattle.std.specs.Prelude.{◌≡◌, ℕ, List, IfOk, OnErr};
-ghost use Rattle.std.specs.List.{AllByRecursion};
-ghost use Rattle.gx_object.specs.Commit.{plain_commit_bytes};
-ghost use Rattle.gx_store.specs.State.{HasCause, IfFault};
-ghost use Rattle.gix.specs.TopLevel.{IsTopLevelFile};
-ghost use Rattle.gix.specs.Writing.{WritesTree, BeginsTree, WritesCommit, BeginsCommit};
+ghost use Rattle.std.specs.Prelude.{◌≡◌, ◌++◌, ◌∷◌, [], ℕ, ◌≤◌, false, List, length, take, IfOk, OnOk, OnErr};
+ghost use Rattle.gx_hash.specs.declared.oid.ObjectId.{ObjectId};
+ghost use Rattle.gx_store.specs.State.{Becomes, HasCause, IfFault, all_stored};
+ghost use Rattle.gx_edit.specs.CanonicalTree.{Directory, StandsFor, trees_of};
+ghost use Rattle.gx_edit.specs.PathList.{map_of};
+ghost use Rattle.gx_edit.specs.WritePlain.{has_zero};
+ghost use Rattle.gx_edit.specs.PathMap.{blobs_in, blobs_of};
+ghost use Rattle.gix.specs.CommitRequest.{asked};
+ghost use Rattle.gix.specs.CommitEdits.{Grows, written_objects};
+ghost use Rattle.gix.specs.Stages.{AreObjects, blob_ids, IsOfStore, as_store_error};
 
-use crate::top_level::{put_files, tree_of};
-use gx_edit::PathEdit;
-use gx_hash::{Bytes, NoMemory, ObjectId};
-use gx_object::{Kind, Signature, push_commit};
-use gx_store::{Objects, StoreError, write_object};
+use crate::plan::NewObjects;
+use crate::request::Request;
+use gx_edit::{EditError, PathEdit, PathMap, write_plain};
+use gx_hash::ObjectId;
+use gx_object::Kind;
+use gx_store::{Objects, StoreError};
 use std::alloc::Global;
 
-/// Stores the blobs of edits and the tree that they make of the empty one.
-fn write_tree<S: Objects>(
+/// Stores all objects of a commit.
+pub(crate) fn write_new<S: Objects>(
+    alloc: Global,
+    store: &mut S,
+    request: &Request<'_>,
+    objects: &NewObjects,
+) -> Result<(), StoreError>
+    requires { (directory : Directory) × AreObjects (S.state store.old).hash (asked request.now) directory objects.now }
+    ensures ok { (directory : Directory) → AreObjects (S.state store.old).hash (asked request.now) directory objects.now
+        → OnOk result (Becomes (all_stored (written_objects (S.state store.old).hash (asked request.now) directory) (S.state store.old)) (S.state store.new)) }
+    ensures err { (directory : Directory) → AreObjects (S.state store.old).hash (asked request.now) directory objects.now
+        → OnErr result (Grows (written_objects (S.state store.old).hash (asked request.now) directory) (S.state store.old) (S.state store.new)) }
+    ensures fault { IfFault result (HasCause (S.state store.old) (S.state store.new)) }
+{
+    write_blobs(alloc, store, request.edits, &objects.edited.blobs)?;
+    write_trees(alloc, store, &objects.edited.map)?;
+    store.write(alloc, objects.id, Kind::Commit, objects.commit.as_slice())
+}
+
+/// Stores the blobs of edits, whose ids are known. After an error the first of them are stored.
+fn write_blobs<S: Objects>(
     alloc: Global,
     store: &mut S,
     edits: &[PathEdit],
-) -> Result<ObjectId, StoreError>
-    requires { AllByRecursion IsTopLevelFile edits.now }
-    ensures ok { IfOk result (λ id. WritesTree edits.now (S.state store.old) id (S.state store.new)) }
-    ensures err { OnErr result (BeginsTree edits.now (S.state store.old) (S.state store.new)) }
+    ids: &[ObjectId],
+) -> Result<(), StoreError>
+    requires { ids.now ≡ blob_ids (S.state store.old).hash edits.now }
+    ensures ok { OnOk result (Becomes (all_stored (blobs_of edits.now) (S.state store.old)) (S.state store.new)) }
+    ensures err { OnErr result ((n : ℕ) × (n ≤ length edits.now) × Becomes (all_stored (blobs_of (take n edits.now)) (S.state store.old)) (S.state store.new)) }
     ensures fault { IfFault result (HasCause (S.state store.old) (S.state store.new)) }
 {
-    let files = put_files(alloc, store, edits)?;
-    let tree = tree_of(alloc, files)?;
-    write_object(alloc, store, Kind::Tree, tree.as_slice())
+    let mut rest = ids;
+    for edit in edits {
+        rest = write_blob(alloc, store, edit, rest)?;
+    }
+    Ok(())
 }
 
-fn commit_bytes(
-    alloc: Global,
-    tree: &ObjectId,
-    parents: &[ObjectId],
-    author: &Signature,
-    committer: &Signature,
-    message: &[u8],
-) -> Result<Bytes, NoMemory>
-    ensures { IfOk result (λ bytes. bytes ≡ plain_commit_bytes tree.now parents.now author.now committer.now message.now) }
-{
-    let mut out = Vec::new(alloc);
-    push_commit(&mut out, tree, parents, author, committer, message)?;
-    Ok(Bytes::from_vec(out))
-}
-
-/// Stores all objects of a commit of edits: each object comes behind all that it names.
-pub(crate) fn write_commit<S: Objects>(
+/// Stores the blob of an edit, whose id comes first, where it has one. Answers the other ids.
+fn write_blob<'a, S: Objects>(
     alloc: Global,
     store: &mut S,
-    committer: &Signature,
-    author: &Signature,
-    message: &[u8],
-    parents: &[ObjectId],
-    edits: &[PathEdit],
-) -> Result<ObjectId, StoreError>
-    requires { AllByRecursion IsTopLevelFile edits.now }
-    ensures ok { (reference : List ℕ) → IfOk result (λ id. WritesCommit record { committer = committer.now; author = author.now; reference = reference; message = message.now; parents = parents.now; edits = edits.now }
-        (S.state store.old) id (S.state store.new)) }
-    ensures err { (reference : List ℕ) → OnErr result (BeginsCommit record { committer = committer.now; author = author.now; reference = reference; message = message.now; parents = parents.now; edits = edits.now }
-        (S.state store.old) (S.state store.new)) }
+    edit: &PathEdit,
+    ids: &'a [ObjectId],
+) -> Result<&'a [ObjectId], StoreError>
+    requires { (more : List ObjectId) × (ids.now ≡ blob_ids (S.state store.old).hash (edit.now ∷ []) ++ more) }
+    ensures ok { OnOk result (Becomes (all_stored (blobs_in edit.now) (S.state store.old)) (S.state store.new)) }
+    ensures rest { (more : List ObjectId) → ids.now ≡ blob_ids (S.state store.old).hash (edit.now ∷ []) ++ more → IfOk result (λ rest. rest.now ≡ more) }
+    ensures err { OnErr result (Becomes (S.state store.old) (S.state store.new)) }
     ensures fault { IfFault result (HasCause (S.state store.old) (S.state store.new)) }
 {
-    let tree = write_tree(alloc, store, edits)?;
-    let commit = commit_bytes(alloc, &tree, parents, author, committer, message)?;
-    write_object(alloc, store, Kind::Commit, commit.as_slice())
+    match edit {
+        PathEdit::File { bytes, .. } | PathEdit::Link { bytes, .. } => {
+            let [id, rest @ ..] = ids else { unreachable!() };
+            store.write(alloc, *id, Kind::Blob, bytes.as_slice())?;
+            Ok(rest)
+        }
+        _ => Ok(ids),
+    }
+}
+
+/// Stores the trees of a map.
+fn write_trees<S: Objects>(alloc: Global, store: &mut S, map: &PathMap) -> Result<(), StoreError>
+    requires plain { has_zero map.now ≡ false }
+    requires stands { (directory : Directory) × StandsFor directory (map_of map.now) }
+    ensures ok { (directory : Directory) → StandsFor directory (map_of map.now) → OnOk result (Becomes (all_stored (trees_of (S.state store.old).hash directory) (S.state store.old)) (S.state store.new)) }
+    ensures err { (directory : Directory) → StandsFor directory (map_of map.now) → OnErr result (Grows (trees_of (S.state store.old).hash directory) (S.state store.old) (S.state store.new)) }
+    ensures fault { IfFault result (HasCause (S.state store.old) (S.state store.new)) }
+{
+    match write_plain(alloc, store, map, None) {
+        Ok(_) => Ok(()),
+        Err(refusal) => Err(as_store_error(refusal)),
+    }
+}
+
+/// A refusal that only a store gave.
+fn as_store_error(refusal: EditError) -> StoreError
+    requires { IsOfStore refusal }
+    ensures { result ≡ as_store_error refusal }
+{
+    match refusal {
+        EditError::Store { what } => StoreError::Fault { what },
+        EditError::NoMemory => StoreError::NoMemory,
+        _ => unreachable!(),
+    }
 }

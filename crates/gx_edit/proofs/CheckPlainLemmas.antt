@@ -1,5 +1,5 @@
 -- What a plan and passes over its entries say of a map that is to be written.
-use Rattle.std.proofs.Common.{◌≡◌, ◌∙◌, sym, ap, refl, subst, ℕ, Bool, true, false, true≢false, List, [], ◌∷◌, map, Some, Contains, IfSome, IsTrue}
+use Rattle.std.proofs.Common.{◌≡◌, ◌∙◌, sym, ap, refl, subst, ℕ, Bool, true, false, true≢false, List, [], ◌∷◌, map, Some, Contains, IfSome}
 use Rattle.std.specs.List.{AllByRecursion}
 use Rattle.gx_hash.specs.declared.kind.HashKind.{HashKind}
 use Rattle.gx_hash.specs.declared.oid.ObjectId.{ObjectId}
@@ -12,9 +12,9 @@ use Rattle.gx_store.specs.declared.error.What.TheVariants.{Object, Name, Index, 
 use Rattle.gx_edit.specs.PathList.{PathList, map_of}
 use Rattle.gx_edit.specs.CanonicalTree.{Directory, StandsFor, root_of, trees_of}
 use Rattle.gx_edit.specs.CheckPlain.{has_id, IsOwnTree, IsNeeded, MayBeWritten, CheckPlainCauses}
-use Rattle.gx_edit.specs.Checking.{OneOf, IsUnsafe, IsOutside, IsCompleteOutside, IsMissing, IsMissingOutside}
+use Rattle.gx_edit.specs.Checking.{OneOf, IsUnsafe, IsCompleteOutside, IsMissingOutside}
 use Rattle.gx_edit.specs.Planning.{planned}
-use Rattle.gx_edit.specs.WritePlain.{has_zero, entries_within, IsSafe, IsEntry}
+use Rattle.gx_edit.specs.WritePlain.{has_zero, entries_within, IsSafe}
 use Rattle.gx_edit.specs.declared.error.EditError.{EditError}
 use Rattle.gx_edit.specs.declared.error.EditError.TheVariants as error
 use Rattle.gx_edit.specs.declared.writing.plan.Plan.{Plan}

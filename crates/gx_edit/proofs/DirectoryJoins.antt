@@ -8,9 +8,12 @@ use Rattle.gx_hash.specs.HashKind.{kind_of}
 use Rattle.gx_hash.specs.ObjectId.{null_id, bytes_of, id_from_bytes}
 use Rattle.gx_object.specs.declared.kind.Kind.{Kind}
 use Rattle.gx_object.specs.declared.tree.Entry.{Entry}
+use Rattle.gx_object.specs.declared.tree.EntryKind.TheVariants as entry_kind
+use Rattle.gx_object.specs.Mode.{mode_of}
 use Rattle.gx_edit.specs.Path.{Path, path_eq, IsName}
 use Rattle.gx_edit.specs.CanonicalTree.{Directory, leaf_at, Follow, IsBelow, IsCanonical, IsLeafMode, entries_of, tree_of, trees_below, root_of}
 use Rattle.gx_edit.specs.CanonicalTree.Directory.{End, File, Sub}
+use Rattle.gx_edit.specs.WritePlain.{entries_within}
 use Rattle.gx_edit.specs.declared.leaf.Leaf.{Leaf}
 use Rattle.gx_edit.proofs.PathLemmas.{bytes_eq-is, bytes_eq-of}
 use Rattle.gx_edit.proofs.DirectoryLemmas.{bytes_eq-no, leaf_at-root}
@@ -186,13 +189,22 @@ canonical_sub (Sub m i rest) n inner ok h name some sound = (ok.0, ok.1, ok.2, f
 abbrev pub IsOwnId : HashKind → ObjectId → Type 0
 IsOwnId hash id = (id ≢ null_id (kind_of id)) × (id_from_bytes hash (bytes_of id) ≡ Some id)
 
--- each leaf has such an id
+-- each leaf has such an id, and no tree below has the null id
 abbrev pub HasIds : HashKind → Directory → Type 0
 HasIds hash End = Unit {0}
 HasIds hash (File n x rest) = IsOwnId hash x.id × HasIds hash rest
-HasIds hash (Sub n inner rest) = HasIds hash inner × HasIds hash rest
+HasIds hash (Sub n inner rest) = HasIds hash inner × HasIds hash rest × (root_of hash inner ≢ null_id (kind_of (root_of hash inner)))
+
+pub entries_own : (hash : HashKind) (d : Directory) → HasIds hash d → AllByRecursion (λ (e : Entry). e.oid ≢ null_id (kind_of e.oid)) (entries_within hash d)
+entries_own hash End h = tt
+entries_own hash (File n x rest) h = (h.0.0, entries_own hash rest h.1)
+entries_own hash (Sub n inner rest) h = both (entries_within hash inner) (record { mode = record { value = mode_of entry_kind.Tree }; filename = n; oid = root_of hash inner } ∷ entries_within hash rest) (entries_own hash inner h.0) (h.2, entries_own hash rest h.1)
+  where
+    both : (es more : List Entry) → AllByRecursion (λ (e : Entry). e.oid ≢ null_id (kind_of e.oid)) es → AllByRecursion (λ (e : Entry). e.oid ≢ null_id (kind_of e.oid)) more → AllByRecursion (λ (e : Entry). e.oid ≢ null_id (kind_of e.oid)) (es ++ more)
+    both [] more a b = b
+    both (e ∷ es) more a b = (a.0, both es more a.1 b)
 
 pub ids_join : (hash : HashKind) (d e : Directory) → HasIds hash d → HasIds hash e → HasIds hash (join d e)
 ids_join hash End e a b = b
 ids_join hash (File n x rest) e a b = (a.0, ids_join hash rest e a.1 b)
-ids_join hash (Sub n inner rest) e a b = (a.0, ids_join hash rest e a.1 b)
+ids_join hash (Sub n inner rest) e a b = (a.0, ids_join hash rest e a.1 b, a.2)

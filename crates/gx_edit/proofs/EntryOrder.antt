@@ -56,7 +56,7 @@ keys_before (f ∷ front) rest e h = (key_behind (sort_key f) front rest e h.0, 
 
 -- ---- sort keys of a directory's entries
 
-key_of_leaf : (n : List ℕ) (x : Leaf) → IsLeafMode x.mode.value → sort_key (record { mode = x.mode; filename = n; oid = x.id }) ≡ n
+pub key_of_leaf : (n : List ℕ) (x : Leaf) → IsLeafMode x.mode.value → sort_key (record { mode = x.mode; filename = n; oid = x.id }) ≡ n
 key_of_leaf n x mode = go (is_tree_mode x.mode.value) refl mode
   where
     go : (t : Bool) → is_tree_mode x.mode.value ≡ t → IsLeafMode x.mode.value → cond t (n ++ 47 ∷ []) n ≡ n

@@ -1,16 +1,15 @@
 -- A path map without zero bytes has a canonical directory.
-use Rattle.std.proofs.Common.{◌≡◌, ◌≢◌, ℕ, suc, zero, ◌<◌, Bool, true, false, ◌||◌, ◌==◌, cond, List, [], ◌∷◌, map, length, get_or, Contains, Option, Some, None, IsSome, IsTrue, refl, sym, ap, ap₂, ◌∙◌, subst, true≢false, arith}
+use Rattle.std.proofs.Common.{◌≡◌, ◌≢◌, ℕ, suc, zero, ◌<◌, Bool, true, false, ◌||◌, ◌==◌, cond, List, [], ◌∷◌, map, length, get_or, Contains, Option, Some, None, IsSome, refl, sym, ap, ◌∙◌, subst, true≢false, arith}
 use Rattle.std.proofs.lemmas.Bool.{eqb-false}
 use Rattle.std.specs.List.{list_any, AllByRecursion}
 use Rattle.std.specs.List.Sorted.{IsStrictlySortedBy}
-use Rattle.std.specs.Str.{bytes_eq}
 use Rattle.std.specs.declared.cmp.Ordering.TheVariants.{Less}
 use Rattle.gx_rules.specs.Name.{name_cmp}
 use Rattle.gx_edit.specs.Path.{Path, IsName, components, at_front, path_eq, leads_to}
-use Rattle.gx_edit.specs.PathMap.{PathMap, put}
-use Rattle.gx_edit.specs.PathList.{PathList, map_of, IsWhole, IsPathMap, IsRising}
+use Rattle.gx_edit.specs.PathMap.{put}
+use Rattle.gx_edit.specs.PathList.{PathList, map_of, IsPathMap, IsRising}
 use Rattle.gx_edit.specs.PathTexts.{leaf_at_text}
-use Rattle.gx_edit.specs.CanonicalTree.{Directory, leaf_at, IsBelow, StandsFor}
+use Rattle.gx_edit.specs.CanonicalTree.{Directory, IsBelow, StandsFor}
 use Rattle.gx_edit.specs.CanonicalTree.Directory.{End}
 use Rattle.gx_edit.specs.WritePlain.{has_zero}
 use Rattle.gx_edit.specs.declared.leaf.Leaf.{Leaf}

@@ -13,6 +13,7 @@ pub mod KeptLemmas
 pub mod LeafLemmas
 pub mod ListingLemmas
 pub mod MakingLemmas
+pub mod MapTreeLemmas
 pub mod NeededLemmas
 pub mod OpenLemmas
 pub mod OrderLemmas
@@ -21,6 +22,7 @@ pub mod PlainLemmas
 pub mod PlanLemmas
 pub mod ReadMapLemmas
 pub mod ReadingLemmas
+pub mod ReadyLemmas
 pub mod RootLemmas
 pub mod RowsLemmas
 pub mod StoringLemmas

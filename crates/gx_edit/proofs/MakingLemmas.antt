@@ -1,12 +1,10 @@
 -- Each path map that a tree can spell has a canonical directory.
-use Rattle.std.proofs.Common.{◌≡◌, ℕ, Bool, true, false, ◌&&◌, ◌||◌, ◌==◌, ◌≢◌, ◌++◌, ◌⊎◌, inl, inr, cond, List, [], ◌∷◌, map, Option, Some, None, IsSome, refl, sym, ap, ap₂, ◌∙◌, subst, Contains, true≢false, arith}
-use Rattle.std.proofs.lemmas.List.{append-nil}
+use Rattle.std.proofs.Common.{◌≡◌, ℕ, Bool, true, false, ◌&&◌, ◌||◌, ◌≢◌, ◌++◌, ◌⊎◌, inl, inr, cond, List, [], ◌∷◌, map, Option, Some, None, refl, sym, ap, ◌∙◌, subst, Contains, true≢false}
 use Rattle.std.proofs.lemmas.List.Elements.{Contains-append_right}
 use Rattle.std.specs.Str.{bytes_eq}
 use Rattle.std.specs.declared.cmp.Ordering.{Ordering}
 use Rattle.std.specs.declared.cmp.Ordering.TheVariants.{Less, Equal, Greater}
 use Rattle.std.specs.Ordering.{is_lt, ordering_reverse}
-use Rattle.std.specs.Cmp.{tied_itself}
 use Rattle.std.specs.Cmp.Lexicographic.{nat_list_cmp_total}
 use Rattle.std.specs.FinMap.{slice_cmp-IsAntisymmetric, nat_cmp-IsAntisymmetric}
 use Rattle.std.specs.List.{AllByRecursion}
@@ -17,7 +15,7 @@ use Rattle.gx_edit.specs.CanonicalTree.{Directory, leaf_at, Follow, IsCanonical,
 use Rattle.gx_edit.specs.CanonicalTree.Directory.{End, File, Sub}
 use Rattle.gx_edit.specs.declared.leaf.Leaf.{Leaf}
 use Rattle.gx_edit.proofs.PathLemmas.{bytes_eq-is, bytes_eq-of}
-use Rattle.gx_edit.proofs.DirectoryLemmas.{below-irrefl, below-chain, bytes_eq-no, leaf_at-root, Follow-none}
+use Rattle.gx_edit.proofs.DirectoryLemmas.{below-chain, bytes_eq-no, leaf_at-root, Follow-none}
 use Rattle.gx_edit.proofs.TextLemmas.{bytes_eq-turned}
 use Rattle.gx_edit.proofs.OrderLemmas.{head_in}
 

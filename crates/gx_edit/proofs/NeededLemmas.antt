@@ -1,5 +1,5 @@
 -- Sets of ids, and what entries name outside of them.
-use Rattle.std.proofs.Common.{◌≡◌, ◌∙◌, sym, ap, refl, Bool, true, false, ◌||◌, cond, List, [], ◌∷◌, map, ℕ, ◌<◌, ◌+◌, drop, length, get_or, drop-cons, add-one}
+use Rattle.std.proofs.Common.{◌≡◌, ◌∙◌, sym, ap, refl, Bool, true, false, ◌||◌, cond, List, ◌∷◌, map, ℕ, ◌<◌, ◌+◌, drop, length, get_or, drop-cons, add-one}
 use Rattle.std.specs.List.{list_any}
 use Rattle.std.specs.Ordering.{eq_by_cmp, is_eq}
 use Rattle.std.specs.BTreeMap.{is_at}

@@ -1,5 +1,5 @@
 -- The directories that a plan has begun, from the root down.
-use Rattle.std.proofs.Common.{◌≡◌, ℕ, ◌++◌, ◌+◌, ◌<◌, ◌*◌, List, [], ◌∷◌, length, refl, sym, ap, ◌∙◌, subst, arith, drop, length-append, map}
+use Rattle.std.proofs.Common.{◌≡◌, ℕ, ◌++◌, ◌+◌, ◌<◌, ◌*◌, List, [], ◌∷◌, length, refl, sym, ap, ◌∙◌, subst, arith, drop, length-append}
 use Rattle.std.specs.List.{AllByRecursion}
 use Rattle.std.proofs.lemmas.List.{length-map, map-append}
 use Rattle.gx_hash.specs.declared.kind.HashKind.{HashKind}
@@ -7,13 +7,13 @@ use Rattle.gx_hash.specs.declared.oid.ObjectId.{ObjectId}
 use Rattle.gx_object.specs.declared.kind.Kind.TheVariants as object_kind
 use Rattle.gx_object.specs.Tree.{entry_bytes}
 use Rattle.gx_edit.specs.Path.{Path, components}
-use Rattle.gx_edit.specs.CanonicalTree.{Directory, IsCanonical, root_of, tree_of, trees_below}
-use Rattle.gx_edit.specs.Planning.{leaves_of, row_at, rows_at, load, Reach, IsFrontGroup, Made, nothing_made, planned, with_tree, with_entry, tree_entry, made, made_all, IsAtRow, IsPlan}
+use Rattle.gx_edit.specs.CanonicalTree.{Directory, IsCanonical, tree_of, trees_below}
+use Rattle.gx_edit.specs.Planning.{leaves_of, row_at, rows_at, load, Reach, IsFrontGroup, Made, planned, with_tree, with_entry, made, IsPlan}
 use Rattle.gx_edit.specs.declared.leaf.Leaf.{Leaf}
 use Rattle.gx_edit.specs.declared.writing.groups.Row.{Row}
 use Rattle.gx_edit.specs.declared.writing.plan.OpenDirectory.{OpenDirectory}
 use Rattle.gx_edit.specs.declared.writing.plan.Plan.{Plan}
-use Rattle.gx_edit.proofs.PlanLemmas.{at_first, past_file, IsSub, sub_found, IsPlanned, past_sub, all_planned, trees_made, entries_made}
+use Rattle.gx_edit.proofs.PlanLemmas.{nothing_made, tree_entry, IsAtRow, at_first, past_file, IsSub, sub_found, IsPlanned, past_sub, all_planned, trees_made, entries_made}
 
 -- what is left to be planned behind the directories that are begun
 abbrev pub loads : List OpenDirectory → ℕ

@@ -1,24 +1,60 @@
 -- A directory gone through entry by entry, along the rows of its leaves.
-use Rattle.std.proofs.Common.{◌≡◌, ◌≢◌, ℕ, suc, ◌++◌, ◌+◌, ◌<◌, ◌≤◌, cond, Bool, true, false, List, [], ◌∷◌, map, length, refl, sym, ap, ap₂, ◌∙◌, subst, arith, append_assoc}
-use Rattle.std.specs.List.{AllByRecursion, flat_map}
+use Rattle.std.proofs.Common.{◌≡◌, ◌≢◌, ℕ, suc, ◌++◌, ◌+◌, ◌<◌, cond, List, [], ◌∷◌, map, length, refl, sym, ap, ap₂, ◌∙◌, subst, arith, append_assoc}
+use Rattle.std.specs.List.{AllByRecursion}
 use Rattle.std.proofs.lemmas.List.{length-map, append-nil, map-append}
-use Rattle.std.specs.Str.{bytes_eq}
 use Rattle.gx_hash.specs.declared.kind.HashKind.{HashKind}
 use Rattle.gx_hash.specs.declared.oid.ObjectId.{ObjectId}
 use Rattle.gx_object.specs.declared.tree.Entry.{Entry}
 use Rattle.gx_object.specs.declared.kind.Kind.TheVariants as object_kind
+use Rattle.gx_object.specs.declared.tree.EntryKind.TheVariants as entry_kind
+use Rattle.gx_object.specs.Mode.{mode_of}
 use Rattle.gx_object.specs.Tree.{entry_bytes, tree_bytes}
 use Rattle.gx_edit.specs.Path.{Path}
-use Rattle.gx_edit.specs.CanonicalTree.{Directory, IsCanonical, Follow, entries_of, root_of, tree_of, trees_below, trees_of}
+use Rattle.gx_edit.specs.CanonicalTree.{Directory, IsCanonical, Follow, entries_of, root_of, tree_of, trees_below}
 use Rattle.gx_edit.specs.CanonicalTree.Directory.{End, File, Sub}
 use Rattle.gx_edit.specs.WritePlain.{entries_within}
-use Rattle.gx_edit.specs.Planning.{under, leaves_of, joined, goes_into, run, Made, planned, with_tree, with_entry, tree_entry, made_below, made_all, IsAtRow}
+use Rattle.gx_edit.specs.Planning.{under, leaves_of, goes_into, run, Made, planned, with_tree, with_entry}
 use Rattle.gx_edit.specs.declared.leaf.Leaf.{Leaf}
 use Rattle.gx_edit.specs.declared.writing.plan.PlannedTree.{PlannedTree}
 use Rattle.gx_edit.proofs.PathLemmas.{bytes_eq-of}
 use Rattle.gx_edit.proofs.DirectoryLemmas.{bytes_eq-no}
 
 -- ---- directories one after another
+
+-- one directory's entries and then another's
+abbrev pub joined : Directory → Directory → Directory
+joined End e = e
+joined (File n leaf rest) e = File n leaf (joined rest e)
+joined (Sub n inner rest) e = Sub n inner (joined rest e)
+
+-- ---- what is made so far
+
+abbrev pub nothing_made : Made
+nothing_made = record { trees = []; entries = [] }
+
+abbrev pub tree_entry : List ℕ → ObjectId → Entry
+tree_entry n id = record { mode = record { value = mode_of entry_kind.Tree }; filename = n; oid = id }
+
+-- what is made behind other things as the entries of a directory are gone through
+abbrev pub made_below : HashKind → Directory → Made → Made
+made_below hash End m = m
+made_below hash (File n leaf rest) m = made_below hash rest (with_entry (record { mode = leaf.mode; filename = n; oid = leaf.id }) m)
+made_below hash (Sub n inner rest) m = made_below hash rest (with_entry (tree_entry n (root_of hash inner)) (with_tree (planned hash (tree_of hash inner)) (made_below hash inner m)))
+
+-- the directory is gone through, and its own tree made
+abbrev pub made_all : HashKind → Directory → Made → Made
+made_all hash directory m = with_tree (planned hash (tree_of hash directory)) (made_below hash directory m)
+
+-- A directory is gone through but for these rows.
+pub record IsAtRow (hash : HashKind) (old new : Made) (ahead : List (Path × Leaf)) (bytes : List ℕ) (directory : Directory) : Type 0 where
+  pub done : Directory
+  pub rest : Directory
+  pub whole : directory ≡ joined done rest
+  pub left : leaves_of rest ≡ ahead
+  pub bytes_so_far : bytes ≡ tree_bytes (entries_of hash done)
+  pub made_so_far : new ≡ made_below hash done old
+
+-- ---- laws of both
 
 joined-assoc : (a b c : Directory) → joined (joined a b) c ≡ joined a (joined b c)
 joined-assoc End b c = refl

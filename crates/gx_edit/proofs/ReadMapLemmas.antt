@@ -3,8 +3,11 @@ use Rattle.std.proofs.Common.{◌≡◌, ◌≢◌, ℕ, Bool, true, false, ◌&
 use Rattle.std.specs.Str.{bytes_eq}
 use Rattle.std.specs.List.{AllByRecursion}
 use Rattle.gx_hash.specs.declared.kind.HashKind.{HashKind}
-use Rattle.gx_hash.specs.ObjectId.{bytes_of, id_from_bytes}
-use Rattle.gx_edit.specs.SharedIds.{HasIdsOf}
+use Rattle.gx_hash.specs.ObjectId.{bytes_of, id_from_bytes, null_id}
+use Rattle.gx_edit.specs.SharedIds.{HasIdsOf, HasNoNullId}
+use Rattle.gx_edit.specs.WritePlain.{entries_within}
+use Rattle.gx_object.specs.declared.tree.Entry.{Entry}
+use Rattle.gx_hash.specs.HashKind.{kind_of}
 use Rattle.gx_edit.specs.Path.{Path, leads_to, IsName}
 use Rattle.gx_edit.specs.PathMap.{PathMap}
 use Rattle.gx_edit.specs.PathList.{IsLeaf, IsPathMap}
@@ -12,8 +15,8 @@ use Rattle.gx_edit.specs.CanonicalTree.{Directory, leaf_at, IsCanonical}
 use Rattle.gx_edit.specs.CanonicalTree.Directory.{End, File, Sub}
 use Rattle.gx_edit.specs.declared.leaf.Leaf.{Leaf}
 use Rattle.gx_edit.proofs.PathLemmas.{bytes_eq-is}
-use Rattle.gx_edit.proofs.DirectoryLemmas.{leaf_at-root, Follow-none}
-use Rattle.gx_edit.proofs.DirectoryJoins.{HasIds}
+use Rattle.gx_edit.proofs.DirectoryLemmas.{leaf_at-root, Follow-none, one_directory}
+use Rattle.gx_edit.proofs.DirectoryJoins.{HasIds, entries_own}
 
 abbrev AreNames : Path → Type 0
 AreNames p = AllByRecursion (λ name. (name ≢ []) × (Contains name 47 → ⊥)) p
@@ -114,6 +117,11 @@ is_map hash d m ok ids look = record {
   leaves = λ p x h. (leaf_of hash d p x ok ids (look p ∙ h)).0;
   apart = λ p q a b l. one_leaf d p q ok (subst IsSome (sym (look p)) a) (subst IsSome (sym (look q)) b) l;
 }
+
+-- no id in its trees is null
+pub no_null : (hash : HashKind) (d : Directory) (m : PathMap) → IsCanonical d → HasIds hash d → ((p : Path) → leaf_at d p ≡ m p) → HasNoNullId hash m
+no_null hash d m ok ids look = λ e stands. subst (λ x. AllByRecursion (λ (entry : Entry). entry.oid ≢ null_id (kind_of entry.oid)) (entries_within hash x))
+    (one_directory d e ok stands.canonical (λ p. look p ∙ sym (stands.leaves p))) (entries_own hash d ids)
 
 -- the ids of its leaves are of the kind
 pub has_ids : (hash : HashKind) (d : Directory) (m : PathMap) → IsCanonical d → HasIds hash d → ((p : Path) → leaf_at d p ≡ m p) → HasIdsOf hash m

@@ -9,7 +9,8 @@ use Rattle.gx_hash.specs.declared.kind.HashKind.{HashKind}
 use Rattle.gx_hash.specs.declared.kind.HashKind.TheVariants.{Sha1, Sha256}
 use Rattle.gx_hash.specs.declared.oid.ObjectId.{ObjectId}
 use Rattle.gx_hash.specs.declared.oid.ObjectId.TheVariants as oid
-use Rattle.gx_hash.specs.ObjectId.{object_id, bytes_of, id_from_bytes}
+use Rattle.gx_hash.specs.HashKind.{kind_of}
+use Rattle.gx_hash.specs.ObjectId.{object_id, null_id, bytes_of, id_from_bytes}
 use Rattle.gx_object.specs.TreeSpelling.{SpellsEntry}
 use Rattle.gx_rules.specs.Name.{name_cmp}
 use Rattle.gx_rules.specs.Path.{at_front}
@@ -381,7 +382,7 @@ module _ (hash : HashKind) (told : Option Content) where
           split = split;
           fit = record {
             canonical = canonical_sub k.done n s.done b.fit.canonical b.before b.sound.name some s.level.fit.canonical;
-            ids = ids_join hash k.done (Sub n s.done End) b.fit.ids (s.level.fit.ids, tt);
+            ids = ids_join hash k.done (Sub n s.done End) b.fit.ids (s.level.fit.ids, tt, subst (λ i. i ≢ null_id (kind_of i)) id b.sound.id);
             stored = told_both told (λ content before own. subst (λ ts. HoldsAll hash ts content) (sym (trees-join hash k.done (Sub n s.done End) ∙ ap (λ ts. trees_below hash k.done ++ ts) (append-nil (trees_of hash s.done))))
                 (All-append (λ object. lookup content (id_of hash object) ≡ Some object) (trees_below hash k.done) (trees_of hash s.done) before own)) b.fit.stored (trees_stored (length (text_of s.above)) s.inner t s.done s.level whole);
           };

@@ -1,7 +1,7 @@
 -- Directories with one root are one, unless two of their trees share an id.
-use Rattle.std.proofs.Common.{◌≡◌, ◌≢◌, ◌<◌, ◌+◌, ◌==◌, ◌^◌, ◌⊎◌, inl, inr, ⊎_elim, ℕ, suc, zero, Bool, true, false, cond, List, [], ◌∷◌, ◌++◌, length, map, All, Contains, Some, None, refl, sym, ap, ◌∙◌, subst, true≢false, not, ◌&&◌, ne_eqb, arith}
+use Rattle.std.proofs.Common.{◌≡◌, ◌≢◌, ◌<◌, ◌+◌, ◌==◌, ◌^◌, ◌⊎◌, inl, inr, ℕ, suc, zero, Bool, true, false, cond, List, [], ◌∷◌, ◌++◌, length, All, Contains, Some, None, refl, sym, ap, ◌∙◌, subst, true≢false, not, ◌&&◌, ne_eqb, arith}
 use Rattle.std.specs.Str.{bytes_eq}
-use Rattle.std.specs.List.{AllByRecursion, list_all}
+use Rattle.std.specs.List.{list_all}
 use Rattle.std.proofs.Math.ListN.{get_or-append}
 use Rattle.std.proofs.lemmas.List.{length-append}
 use Rattle.std.proofs.lemmas.List.Elements.{All-cons, All-nil}
@@ -32,16 +32,16 @@ use Rattle.gx_edit.proofs.ListingLemmas.{has_some}
 
 -- ---- ids of the kind
 
-abbrev Fits : HashKind → ObjectId → Type 0
+abbrev pub Fits : HashKind → ObjectId → Type 0
 Fits hash id = id_from_bytes hash (bytes_of id) ≡ Some id
 
-abbrev FitAll : HashKind → Directory → Type 0
+abbrev pub FitAll : HashKind → Directory → Type 0
 FitAll hash End = Unit {0}
 FitAll hash (File n x rest) = Fits hash x.id × FitAll hash rest
 FitAll hash (Sub n inner rest) = FitAll hash inner × FitAll hash rest
 
 module _ (hash : HashKind) where
-  abbrev LeavesFit : Directory → Type 0
+  abbrev pub LeavesFit : Directory → Type 0
   LeavesFit d = (p : Path) (leaf : Leaf) → leaf_at d p ≡ Some leaf → Fits hash leaf.id
 
   behind_file : (n : List ℕ) (x : Leaf) (rest : Directory) → IsCanonical (File n x rest) → LeavesFit (File n x rest) → LeavesFit rest
@@ -61,7 +61,7 @@ module _ (hash : HashKind) where
       go true e = let no : None ≡ Some leaf = sym (Follow-none n _ rest p ok.3) ∙ ap (λ k. leaf_at rest (k ∷ p)) (bytes_eq-is n c e) ∙ h in cc
       go false e = fit (c ∷ p) leaf (ap (λ t. cond t (leaf_at inner p) (leaf_at rest (c ∷ p))) e ∙ h)
 
-  fit_all : (d : Directory) → IsCanonical d → LeavesFit d → FitAll hash d
+  pub fit_all : (d : Directory) → IsCanonical d → LeavesFit d → FitAll hash d
   fit_all End ok fit = tt
   fit_all (File n x rest) ok fit = (fit (n ∷ []) x (ap (λ t. cond t (Some x) (leaf_at rest (n ∷ []))) (bytes_eq-of n n refl)), fit_all rest ok.2 (behind_file n x rest ok fit))
   fit_all (Sub n inner rest) ok fit =
@@ -79,7 +79,7 @@ mode_fits mode (inr (inl e)) = omega (arith, e)
 mode_fits mode (inr (inr (inl e))) = omega (arith, e)
 mode_fits mode (inr (inr (inr e))) = omega (arith, e)
 
-all_spelled : (hash : HashKind) (d : Directory) → IsCanonical d → FitAll hash d → All (HasSpelling hash) (entries_of hash d)
+pub all_spelled : (hash : HashKind) (d : Directory) → IsCanonical d → FitAll hash d → All (HasSpelling hash) (entries_of hash d)
 all_spelled hash End ok fit = All-nil (HasSpelling hash)
 all_spelled hash (File n x rest) ok fit = All-cons (HasSpelling hash) _ _ (record { mode = mode_fits x.mode.value ok.3; filename = name_fits n ok.0; oid = fit.0 }) (all_spelled hash rest ok.2 fit.1)
 all_spelled hash (Sub n inner rest) ok fit =
@@ -108,11 +108,11 @@ module _ (hash : HashKind) where
   share_right : (xs ys us vs : List (Kind × List ℕ)) → Share ys vs → Share (xs ++ ys) (us ++ vs)
   share_right xs ys us vs s = record { one = s.one; other = s.other; among = among_right xs ys s.one s.among; among_others = among_right us vs s.other s.among_others; apart = s.apart; same_id = s.same_id }
 
-  last : (xs : List (Kind × List ℕ)) (x : Kind × List ℕ) → Contains (xs ++ x ∷ []) x
+  pub last : (xs : List (Kind × List ℕ)) (x : Kind × List ℕ) → Contains (xs ++ x ∷ []) x
   last xs x = among_right xs (x ∷ []) x (0, omega arith, refl)
 
   -- equal roots are those of equal trees, or are shared
-  decided : (d e : Directory) → IsCanonical d → IsCanonical e → FitAll hash d → FitAll hash e → (entries_of hash d ≡ entries_of hash e → (d ≡ e) ⊎ Share (trees_below hash d) (trees_below hash e)) → root_of hash d ≡ root_of hash e
+  pub decided : (d e : Directory) → IsCanonical d → IsCanonical e → FitAll hash d → FitAll hash e → (entries_of hash d ≡ entries_of hash e → (d ≡ e) ⊎ Share (trees_below hash d) (trees_below hash e)) → root_of hash d ≡ root_of hash e
       → (d ≡ e) ⊎ Share (trees_of hash d) (trees_of hash e)
   decided d e a b f g below same = go (bytes_eq (tree_bytes (entries_of hash d)) (tree_bytes (entries_of hash e))) refl
     where
@@ -149,7 +149,7 @@ module _ (hash : HashKind) where
   abbrev leaf_in : Entry → Leaf
   leaf_in e = record { mode = e.mode; id = e.oid }
 
-  one_or_shared : (d e : Directory) → IsCanonical d → IsCanonical e → FitAll hash d → FitAll hash e → entries_of hash d ≡ entries_of hash e → (d ≡ e) ⊎ Share (trees_below hash d) (trees_below hash e)
+  pub one_or_shared : (d e : Directory) → IsCanonical d → IsCanonical e → FitAll hash d → FitAll hash e → entries_of hash d ≡ entries_of hash e → (d ≡ e) ⊎ Share (trees_below hash d) (trees_below hash e)
   one_or_shared End End a b f g same = inl refl
   one_or_shared End (File m y s) a b f g same = cc
   one_or_shared End (Sub m j s) a b f g same = cc
@@ -180,12 +180,12 @@ maps_apart hash d e m n f g s t same =
 
 -- ---- in one content
 
-held : (hash : HashKind) (content : Content) (xs : List (Kind × List ℕ)) (x : Kind × List ℕ) → HoldsAll hash xs content → Contains xs x → lookup content (id_of hash x) ≡ Some x
+pub held : (hash : HashKind) (content : Content) (xs : List (Kind × List ℕ)) (x : Kind × List ℕ) → HoldsAll hash xs content → Contains xs x → lookup content (id_of hash x) ≡ Some x
 held hash content [] x all h = absurd (omega (arith, h.1))
 held hash content (y ∷ xs) x all (zero, less, is) = subst (λ z. lookup content (id_of hash z) ≡ Some z) is all.0
 held hash content (y ∷ xs) x all (suc k, less, is) = held hash content xs x all.1 (k, omega (arith, less), is)
 
-never_shared : (hash : HashKind) (content : Content) (xs ys : List (Kind × List ℕ)) → HoldsAll hash xs content → HoldsAll hash ys content → ShareAnId hash xs ys → ⊥
+pub never_shared : (hash : HashKind) (content : Content) (xs ys : List (Kind × List ℕ)) → HoldsAll hash xs content → HoldsAll hash ys content → ShareAnId hash xs ys → ⊥
 never_shared hash content xs ys left right share =
     let both : Some share.one ≡ Some share.other = sym (held hash content xs share.one left share.among) ∙ ap (lookup content) share.same_id ∙ held hash content ys share.other right share.among_others in
     share.apart cc

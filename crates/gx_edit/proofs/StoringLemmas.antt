@@ -1,17 +1,13 @@
 -- Planned trees stored one by one.
-use Rattle.std.proofs.Common.{◌≡◌, ◌∙◌, ◌<◌, ◌+◌, suc, zero, sym, ap, refl, subst, List, [], ◌∷◌, ◌++◌, ℕ, length, take, drop, get_or, map, Option, Some, None, arith}
+use Rattle.std.proofs.Common.{◌≡◌, ◌∙◌, ◌<◌, ◌+◌, suc, zero, sym, ap, refl, subst, List, [], ◌∷◌, ◌++◌, ℕ, length, take, get_or, Option, Some, None, arith}
 use Rattle.std.specs.Prelude.{option_map}
-use Rattle.std.specs.List.{AllByRecursion}
-use Rattle.std.proofs.lemmas.List.{take_more, map-append, append-nil}
+use Rattle.std.proofs.lemmas.List.{take_more, map-append}
 use Rattle.std.proofs.lemmas.List.Elements.{All-from_recursion}
-use Rattle.gx_hash.specs.declared.kind.HashKind.{HashKind}
-use Rattle.gx_hash.specs.declared.oid.ObjectId.{ObjectId}
 use Rattle.gx_object.specs.declared.kind.Kind.{Kind}
 use Rattle.gx_object.specs.declared.kind.Kind.TheVariants as object_kind
 use Rattle.gx_store.specs.Content.{Content, id_of, with_objects}
-use Rattle.gx_store.specs.State.{StoreState, Becomes, HasCause, OfFault, all_stored, stored}
-use Rattle.gx_store.specs.declared.error.StoreError.{StoreError}
-use Rattle.gx_store.proofs.Growth.{goes_on, fault_before}
+use Rattle.gx_store.specs.State.{StoreState, Becomes, all_stored, stored}
+use Rattle.gx_store.proofs.Growth.{goes_on}
 use Rattle.gx_edit.specs.Planning.{ArePlanned, objects_of}
 use Rattle.gx_edit.specs.declared.writing.plan.PlannedTree.{PlannedTree}
 

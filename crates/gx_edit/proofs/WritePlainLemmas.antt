@@ -1,7 +1,7 @@
 -- What a plan, its trees stored, and refusals say of the map that is written.
-use Rattle.std.proofs.Common.{◌≡◌, ◌∙◌, ℕ, false, sym, ap, refl, subst, List, [], ◌∷◌, ◌++◌, map, take, drop, take-append-drop, Option, IsSome, IsTrue, Contains}
+use Rattle.std.proofs.Common.{◌≡◌, ◌≢◌, ◌∙◌, ◌<◌, ℕ, zero, suc, false, sym, ap, refl, subst, List, [], ◌∷◌, ◌++◌, map, take, drop, take-append-drop, Option, IsSome, IsTrue, Contains, length, arith}
 use Rattle.std.specs.List.{AllByRecursion}
-use Rattle.std.proofs.lemmas.List.{append-nil}
+use Rattle.std.proofs.lemmas.List.{append-nil, length-map}
 use Rattle.gx_hash.specs.declared.kind.HashKind.{HashKind}
 use Rattle.gx_hash.specs.declared.oid.ObjectId.{ObjectId}
 use Rattle.gx_object.specs.declared.kind.Kind.{Kind}
@@ -17,7 +17,7 @@ use Rattle.gx_edit.specs.PathList.{PathList, map_of, IsPathMap, IsRising}
 use Rattle.gx_edit.specs.CanonicalTree.{Directory, IsCanonical, StandsFor, tree_of, trees_below, trees_of}
 use Rattle.gx_edit.specs.CanonicalTree.Directory.{End, File, Sub}
 use Rattle.gx_edit.specs.Planning.{leaves_of, rows_at, texts_of, planned, ArePlanned, objects_of, IsPlan}
-use Rattle.gx_edit.specs.WritePlain.{has_zero, entries_within, StoresTrees, BeginsTrees, WritePlainCauses, WritesPlain, IsSafe, IsComplete}
+use Rattle.gx_edit.specs.WritePlain.{has_zero, StoresTrees, BeginsTrees, StopsInTrees, WritePlainCauses, WritesPlain, IsSafe, AreSafe, IsComplete}
 use Rattle.gx_edit.specs.Checking.{OneOf, IsUnsafe, IsMissing}
 use Rattle.gx_edit.specs.Refusals.{handed_on}
 use Rattle.gx_edit.specs.declared.error.EditError.{EditError}
@@ -47,10 +47,15 @@ plans_paths paths hash given plan root rs slice rising m plain is same kind f =
 
 -- ---- nothing stored, some trees, all trees
 
-pub nothing_begun : (paths : PathList) (s : StoreState) → IsRising paths → IsPathMap (map_of paths) → has_zero paths ≡ false → BeginsTrees paths s s
-nothing_begun paths s rising m plain =
+pub nothing_begun : (paths : PathList) (protect : Option Protect) (s : StoreState) → IsRising paths → IsPathMap (map_of paths) → has_zero paths ≡ false → BeginsTrees paths protect s s
+nothing_begun paths protect s rising m plain =
     let d = has_directory paths rising m plain in
-    record { directory = d.0; stands = d.1; first = []; rest = trees_of s.hash d.0; split = refl; becomes = none_stored s }
+    record { directory = d.0; stands = d.1; first = []; rest = trees_of s.hash d.0; split = refl; becomes = none_stored s; safe = λ some. absurd (some refl) }
+
+some_left : {X : Type 0} (n : ℕ) (xs : List X) → n < length xs → drop n xs ≢ []
+some_left n [] less none = omega (arith, less)
+some_left zero (x ∷ xs) less none = cc
+some_left (suc n) (x ∷ xs) less none = some_left n xs (omega (arith, less)) none
 
 IsTree : Kind × List ℕ → Type 0
 IsTree object = object.0 ≡ object_kind.Tree
@@ -90,30 +95,43 @@ module _ (paths : PathList) (s : StoreState) (plan : Plan) (root : ObjectId) (w 
   objects_planned : (slice : List PlannedTree) → slice ≡ plan.trees.items → objects_of slice ≡ trees_of s.hash w.directory
   objects_planned slice same = ap objects_of (same ∙ w.is.trees) ∙ objects_are s.hash (trees_of s.hash w.directory) (are_trees s.hash w.directory)
 
-  pub some_begun : (u : StoreState) (slice : List PlannedTree) → slice ≡ plan.trees.items → ((n : ℕ) × Becomes (all_stored (take n (objects_of slice)) s) u) → BeginsTrees paths s u
-  some_begun u slice same h = record {
-    directory = w.directory;
-    stands = w.stands;
-    first = take h.0 (trees_of s.hash w.directory);
-    rest = drop h.0 (trees_of s.hash w.directory);
-    split = sym (take-append-drop h.0 (trees_of s.hash w.directory));
-    becomes = subst (λ l. Becomes (all_stored (take h.0 l) s) u) (objects_planned slice same) h.1;
+  count_planned : (slice : List PlannedTree) → slice ≡ plan.trees.items → length slice ≡ length (trees_of s.hash w.directory)
+  count_planned slice same = ap length (same ∙ w.is.trees) ∙ length-map (trees_of s.hash w.directory) (planned s.hash)
+
+  pub names_safe : (protect : Option Protect) (entries : List Entry) → entries ≡ plan.entries.items → AllByRecursion (IsSafe protect) entries → AreSafe protect s.hash w.directory
+  names_safe protect entries same safe = subst (AllByRecursion (IsSafe protect)) (same ∙ w.is.entries) safe
+
+  pub stopped : (protect : Option Protect) (u : StoreState) (slice : List PlannedTree) → slice ≡ plan.trees.items → AreSafe protect s.hash w.directory
+      → ((n : ℕ) × (n < length slice) × Becomes (all_stored (take n (objects_of slice)) s) u) → StopsInTrees paths protect s u
+  stopped protect u slice same safe h = record {
+    begun = record {
+      directory = w.directory;
+      stands = w.stands;
+      first = take h.0 (trees_of s.hash w.directory);
+      rest = drop h.0 (trees_of s.hash w.directory);
+      split = sym (take-append-drop h.0 (trees_of s.hash w.directory));
+      becomes = subst (λ l. Becomes (all_stored (take h.0 l) s) u) (objects_planned slice same) h.2;
+      safe = λ some. safe;
+    };
+    left = some_left h.0 (trees_of s.hash w.directory) (subst (λ n. h.0 < n) (count_planned slice same) h.1);
+    safe = safe;
   }
 
   all_become : (u : StoreState) (slice : List PlannedTree) → slice ≡ plan.trees.items → Becomes (all_stored (objects_of slice) s) u → Becomes (all_stored (trees_of s.hash w.directory) s) u
   all_become u slice same b = subst (λ l. Becomes (all_stored l s) u) (objects_planned slice same) b
 
-  pub all_stored_trees : (u : StoreState) (slice : List PlannedTree) → slice ≡ plan.trees.items → Becomes (all_stored (objects_of slice) s) u → StoresTrees paths s u
-  all_stored_trees u slice same b = record { directory = w.directory; stands = w.stands; becomes = all_become u slice same b }
+  pub all_stored_trees : (protect : Option Protect) (u : StoreState) (slice : List PlannedTree) → slice ≡ plan.trees.items → AreSafe protect s.hash w.directory → Becomes (all_stored (objects_of slice) s) u → StoresTrees paths protect s u
+  all_stored_trees protect u slice same safe b = record { directory = w.directory; stands = w.stands; becomes = all_become u slice same b; safe = safe }
 
-  all_begun : (u : StoreState) → StoresTrees paths s u → BeginsTrees paths s u
-  all_begun u a = record {
+  all_begun : (protect : Option Protect) (u : StoreState) → StoresTrees paths protect s u → BeginsTrees paths protect s u
+  all_begun protect u a = record {
     directory = a.directory;
     stands = a.stands;
     first = trees_of s.hash a.directory;
     rest = [];
     split = sym (append-nil (trees_of s.hash a.directory));
     becomes = a.becomes;
+    safe = λ some. a.safe;
   }
 
   pub writes_plain : (u : StoreState) (slice : List PlannedTree) (entries others : List Entry) (protect : Option Protect) → has_zero paths ≡ false → slice ≡ plan.trees.items → Becomes (all_stored (objects_of slice) s) u
@@ -124,13 +142,13 @@ module _ (paths : PathList) (s : StoreState) (plan : Plan) (root : ObjectId) (w 
     stands = w.stands;
     is_root = w.is.is_root;
     becomes = all_become u slice same b;
-    safe = subst (AllByRecursion (IsSafe protect)) (names ∙ w.is.entries) safe;
+    safe = names_safe protect entries names safe;
     complete = λ given. subst (AllByRecursion (IsComplete u)) (stored ∙ w.is.entries) (complete given);
   }
 
   -- ---- refusals
 
-  pub names_cause : (protect : Option Protect) (entries : List Entry) (e : EditError) → entries ≡ plan.entries.items → BeginsTrees paths s s → OneOf entries (IsUnsafe protect) e → WritePlainCauses paths protect s s e
+  pub names_cause : (protect : Option Protect) (entries : List Entry) (e : EditError) → entries ≡ plan.entries.items → BeginsTrees paths protect s s → OneOf entries (IsUnsafe protect) e → WritePlainCauses paths protect s s e
   names_cause protect entries error.EmptyPathComponent same begun o = absurd o.refused
   names_cause protect entries (error.FindExistingObject id) same begun o = absurd o.refused
   names_cause protect entries (error.ObjectKind id actual) same begun o = absurd o.refused
@@ -142,7 +160,7 @@ module _ (paths : PathList) (s : StoreState) (plan : Plan) (root : ObjectId) (w 
   names_cause protect entries (error.Store fault) same begun o = absurd o.refused
   names_cause protect entries error.NoMemory same begun o = begun
 
-  pub stored_cause : (protect : Option Protect) (u : StoreState) (entries : List Entry) (e : EditError) → entries ≡ plan.entries.items → u.unreadable ≡ s.unreadable → IsSome protect → StoresTrees paths s u → OneOf entries (IsMissing u) e → WritePlainCauses paths protect s u e
+  pub stored_cause : (protect : Option Protect) (u : StoreState) (entries : List Entry) (e : EditError) → entries ≡ plan.entries.items → u.unreadable ≡ s.unreadable → IsSome protect → StoresTrees paths protect s u → OneOf entries (IsMissing u) e → WritePlainCauses paths protect s u e
   stored_cause protect u entries error.EmptyPathComponent same kept given stored o = absurd o.refused
   stored_cause protect u entries (error.FindExistingObject id) same kept given stored o = absurd o.refused
   stored_cause protect u entries (error.ObjectKind id actual) same kept given stored o = absurd o.refused
@@ -157,11 +175,11 @@ module _ (paths : PathList) (s : StoreState) (plan : Plan) (root : ObjectId) (w 
   stored_cause protect u entries (error.Store Index) same kept given stored o = absurd o.refused
   stored_cause protect u entries (error.Store Listing) same kept given stored o = absurd o.refused
   stored_cause protect u entries (error.Store Write) same kept given stored o = absurd o.refused
-  stored_cause protect u entries error.NoMemory same kept given stored o = all_begun u stored
+  stored_cause protect u entries error.NoMemory same kept given stored o = all_begun protect u stored
 
-pub write_cause : (paths : PathList) (protect : Option Protect) (s u : StoreState) (e : StoreError) → BeginsTrees paths s u → OfFault e (HasCause s u) → WritePlainCauses paths protect s u (handed_on e)
-write_cause paths protect s u store_error.NoMemory begun h = begun
-write_cause paths protect s u (store_error.Fault fault) begun h = subst (λ f. WritePlainCauses paths protect s u (error.Store f)) (sym h.0) (begun, h.1)
+pub write_cause : (paths : PathList) (protect : Option Protect) (s u : StoreState) (e : StoreError) → StopsInTrees paths protect s u → OfFault e (HasCause s u) → WritePlainCauses paths protect s u (handed_on e)
+write_cause paths protect s u store_error.NoMemory stopped h = stopped.begun
+write_cause paths protect s u (store_error.Fault fault) stopped h = subst (λ f. WritePlainCauses paths protect s u (error.Store f)) (sym h.0) (stopped, h.1)
 
 pub kept_unreadable : (objects : List (Kind × List ℕ)) (s u : StoreState) → Becomes (all_stored objects s) u → u.unreadable ≡ s.unreadable
 kept_unreadable objects s u b = ap (λ (v : StoreState). v.unreadable) b.same

@@ -9,7 +9,7 @@ use Rattle.gx_object.specs.declared.tree.Entry.{Entry}
 use Rattle.gx_object.specs.declared.tree.EntryKind.TheVariants as entry_kind
 use Rattle.gx_object.specs.declared.encode.Field.TheVariants.{FileName}
 use Rattle.gx_object.specs.Mode.{kind_of_mode}
-use Rattle.gx_store.specs.Content.{IsStored, id_eq, id_of}
+use Rattle.gx_store.specs.Content.{Content, IsStored, id_eq, id_of}
 use Rattle.gx_store.specs.State.{StoreState}
 use Rattle.gx_store.specs.declared.error.What.TheVariants as what
 use Rattle.gx_edit.specs.PathList.{PathList, map_of}
@@ -51,3 +51,21 @@ CheckPlainCauses paths protect given state (MissingObject filename kind id) =
 CheckPlainCauses paths protect given state (Store (what.Object id)) = IsTrue (state.unreadable (what.Object id)) × SomeEntry paths state.hash (λ entry. (entry.oid ≡ id) × IsNeeded paths state.hash given entry)
 CheckPlainCauses paths protect given state NoMemory = Unit {0}
 CheckPlainCauses paths protect given state _ = ⊥
+
+-- ---- what was checked, and what is written then
+
+-- A state is ready for what was checked of another one: it keeps what was stored there, and objects of the given ids are stored too. Both tell what they hold.
+pub record IsReady (given : List ObjectId) (checked ready : StoreState) : Type 0 where
+  pub same_hash : ready.hash ≡ checked.hash
+  pub before : Content
+  pub after : Content
+  pub told_before : checked.content ≡ Some before
+  pub told_after : ready.content ≡ Some after
+  pub kept : (id : ObjectId) → IsStored before id → IsStored after id
+  pub brought : (id : ObjectId) → has_id given id ≡ true → IsStored after id
+
+-- The error tells of the store or of memory, and so of no fault that a map has.
+abbrev pub IsOfStore : EditError → Type 0
+IsOfStore (Store fault) = Unit {0}
+IsOfStore NoMemory = Unit {0}
+IsOfStore _ = ⊥

@@ -1,5 +1,5 @@
 -- Why one of some entries is refused.
-use Rattle.std.specs.Prelude.{◌≡◌, ◌≢◌, false, List, Option, IsTrue, IfSome, IsSomeAnd, Contains, IsSome}
+use Rattle.std.specs.Prelude.{◌≡◌, ◌≢◌, false, List, Option, IsTrue, IfSome, IsSomeAnd, Contains}
 use Rattle.gx_rules.specs.Component.{IsFirstViolated}
 use Rattle.gx_rules.specs.declared.component_rules.Protect.{Protect}
 use Rattle.gx_hash.specs.declared.oid.ObjectId.{ObjectId}

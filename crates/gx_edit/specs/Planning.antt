@@ -1,18 +1,15 @@
 -- How the trees of a path map are planned before any is written.
-use Rattle.std.specs.Prelude.{◌≡◌, ℕ, Bool, false, ◌&&◌, ◌≤◌, ◌<◌, ◌+◌, ◌-◌, List, [], ◌∷◌, ◌++◌, map, drop, length, bytes_eq}
+use Rattle.std.specs.Prelude.{◌≡◌, ℕ, Bool, false, ◌≤◌, ◌<◌, ◌+◌, ◌-◌, List, [], ◌∷◌, ◌++◌, map, drop, length, bytes_eq}
 use Rattle.std.specs.List.{prefix_len, AllByRecursion}
 use Rattle.gx_hash.specs.declared.kind.HashKind.{HashKind}
 use Rattle.gx_hash.specs.declared.oid.ObjectId.{ObjectId}
 use Rattle.gx_object.specs.declared.kind.Kind.{Kind}
 use Rattle.gx_object.specs.declared.kind.Kind.TheVariants as object_kind
 use Rattle.gx_object.specs.declared.tree.Entry.{Entry}
-use Rattle.gx_object.specs.declared.tree.EntryKind.TheVariants as entry_kind
-use Rattle.gx_object.specs.Mode.{mode_of}
-use Rattle.gx_object.specs.Tree.{tree_bytes}
 use Rattle.gx_store.specs.Content.{id_of}
 use Rattle.gx_edit.specs.Path.{Path, components}
 use Rattle.gx_edit.specs.PathList.{PathList}
-use Rattle.gx_edit.specs.CanonicalTree.{Directory, entries_of, root_of, trees_of, tree_of}
+use Rattle.gx_edit.specs.CanonicalTree.{Directory, root_of, trees_of}
 use Rattle.gx_edit.specs.CanonicalTree.Directory.{End, File, Sub}
 use Rattle.gx_edit.specs.WritePlain.{entries_within}
 use Rattle.gx_edit.specs.declared.leaf.Leaf.{Leaf}
@@ -30,12 +27,6 @@ abbrev pub leaves_of : Directory → List (Path × Leaf)
 leaves_of End = []
 leaves_of (File n leaf rest) = (n ∷ [], leaf) ∷ leaves_of rest
 leaves_of (Sub n inner rest) = map (under n) (leaves_of inner) ++ leaves_of rest
-
--- one directory's entries and then another's
-abbrev pub joined : Directory → Directory → Directory
-joined End e = e
-joined (File n leaf rest) e = File n leaf (joined rest e)
-joined (Sub n inner rest) e = Sub n inner (joined rest e)
 
 -- ---- the rows of a map, below a directory whose path and slash take their first bytes
 
@@ -91,9 +82,6 @@ pub record Made : Type 0 where
 abbrev pub made : Plan → Made
 made plan = record { trees = plan.trees.items; entries = plan.entries.items }
 
-abbrev pub nothing_made : Made
-nothing_made = record { trees = []; entries = [] }
-
 abbrev pub planned : HashKind → Kind × List ℕ → PlannedTree
 planned hash tree = record { id = id_of hash tree; bytes = tree.1 }
 
@@ -103,34 +91,12 @@ with_tree tree m = record { trees = m.trees ++ tree ∷ []; entries = m.entries 
 abbrev pub with_entry : Entry → Made → Made
 with_entry entry m = record { trees = m.trees; entries = m.entries ++ entry ∷ [] }
 
-abbrev pub tree_entry : List ℕ → ObjectId → Entry
-tree_entry n id = record { mode = record { value = mode_of entry_kind.Tree }; filename = n; oid = id }
-
 -- each tree has its id
 abbrev pub ArePlanned : HashKind → List PlannedTree → Type 0
 ArePlanned hash trees = AllByRecursion (λ tree. tree.id ≡ id_of hash (object_kind.Tree, tree.bytes)) trees
 
 abbrev pub objects_of : List PlannedTree → List (Kind × List ℕ)
 objects_of trees = map (λ tree. (object_kind.Tree, tree.bytes)) trees
-
--- what is made behind other things as the entries of a directory are gone through
-abbrev pub made_below : HashKind → Directory → Made → Made
-made_below hash End m = m
-made_below hash (File n leaf rest) m = made_below hash rest (with_entry (record { mode = leaf.mode; filename = n; oid = leaf.id }) m)
-made_below hash (Sub n inner rest) m = made_below hash rest (with_entry (tree_entry n (root_of hash inner)) (with_tree (planned hash (tree_of hash inner)) (made_below hash inner m)))
-
--- the directory is gone through, and its own tree made
-abbrev pub made_all : HashKind → Directory → Made → Made
-made_all hash directory m = with_tree (planned hash (tree_of hash directory)) (made_below hash directory m)
-
--- A directory is gone through but for these rows.
-pub record IsAtRow (hash : HashKind) (old new : Made) (ahead : List (Path × Leaf)) (bytes : List ℕ) (directory : Directory) : Type 0 where
-  pub done : Directory
-  pub rest : Directory
-  pub whole : directory ≡ joined done rest
-  pub left : leaves_of rest ≡ ahead
-  pub bytes_so_far : bytes ≡ tree_bytes (entries_of hash done)
-  pub made_so_far : new ≡ made_below hash done old
 
 -- The plan of a directory has its trees, children first, each with its id, and the entries of them all.
 pub record IsPlan (hash : HashKind) (directory : Directory) (plan : Plan) (root : ObjectId) : Type 0 where

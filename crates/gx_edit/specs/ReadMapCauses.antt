@@ -67,6 +67,10 @@ pub data HasNoMap (hash : HashKind) (content : Content) (root id : ObjectId) : T
   empty : (above : ObjectId) → IsAtOrBelow hash content root above → HasSubtree hash content above id → lookup content id ≡ Some (kind.Tree, []) → HasNoMap hash content root id
   cycle : (above : ObjectId) → IsAtOrBelow hash content id above → HasSubtree hash content above id → HasNoMap hash content root id
 
+-- the id is stored as a tree
+abbrev pub IsStoredTree : Content → ObjectId → Type 0
+IsStoredTree content id = (bytes : List ℕ) × (lookup content id ≡ Some (kind.Tree, bytes))
+
 -- Why the path map of a tree is not read: some id at or below the root can't be read, is not stored, is no tree, or has no path map; or there is no memory.
 abbrev pub ReadMapCauses : StoreState → ObjectId → EditError → Type 0
 ReadMapCauses state root edit_error.NoMemory = Unit {0}

@@ -1,15 +1,21 @@
 //! What the definitions of path maps and canonical trees say of one another.
 
-ghost use Rattle.std.specs.Prelude.{◌≡◌, ◌⊎◌, false};
+ghost use Rattle.std.specs.Prelude.{◌≡◌, ◌⊎◌, true, false, List, map, Some, ℕ};
 ghost use Rattle.gx_hash.specs.declared.kind.HashKind.{HashKind};
 ghost use Rattle.gx_hash.specs.declared.oid.ObjectId.{ObjectId};
-ghost use Rattle.gx_store.specs.Content.{Content};
+ghost use Rattle.gx_rules.specs.declared.component_rules.Protect.{Protect};
+ghost use Rattle.gx_object.specs.declared.kind.Kind.{Kind};
+ghost use Rattle.gx_store.specs.Content.{Content, id_of};
+ghost use Rattle.gx_store.specs.State.{StoreState, Becomes, all_stored};
 ghost use Rattle.gx_edit.specs.Path.{Path};
 ghost use Rattle.gx_edit.specs.PathMap.{PathMap};
 ghost use Rattle.gx_edit.specs.PathList.{PathList, IsPathMap, IsRising, map_of};
-ghost use Rattle.gx_edit.specs.WritePlain.{has_zero};
+ghost use Rattle.gx_edit.specs.CheckPlain.{has_id, MayBeWritten, IsReady, IsOfStore};
+ghost use Rattle.gx_edit.specs.WritePlain.{has_zero, WritePlainCauses};
 ghost use Rattle.gx_edit.specs.CanonicalTree.{Directory, StandsFor, Represents, root_of, trees_of};
-ghost use Rattle.gx_edit.specs.SharedIds.{HasIdsOf, ShareAnId};
+ghost use Rattle.gx_edit.specs.SharedIds.{HasIdsOf, HasNoNullId, ShareAnId};
+ghost use Rattle.gx_edit.specs.ReadMapCauses.{IsStoredTree, IsAtOrBelow, HasNoMap};
+ghost use Rattle.gx_edit.specs.declared.error.EditError.{EditError};
 
 /// A path map has at most one canonical directory.
 pub fn directory_is_unique()
@@ -39,4 +45,19 @@ pub fn map_is_unique()
 /// A path map whose paths hold no zero byte has a canonical directory.
 pub fn map_has_a_directory()
     ensures { (paths : PathList) → IsRising paths → IsPathMap (map_of paths) → has_zero paths ≡ false → (d : Directory) × StandsFor d (map_of paths) }
+{}
+
+/// A tree that represents a path map can be read as one: what stands at or below it is stored as a tree, and none of that is without a map.
+pub fn represented_tree_has_a_map()
+    ensures { (hash : HashKind) (content : Content) (root : ObjectId) (m : PathMap) → HasIdsOf hash m → HasNoNullId hash m → Represents hash content root m → (id : ObjectId) → IsAtOrBelow hash content root id → IsStoredTree content id × ¬ HasNoMap hash content root id }
+{}
+
+/// A map that may be written, as `check_plain` finds, has no fault for which `write_plain` with the same protections refuses it, once the state is ready.
+pub fn checked_map_has_no_fault()
+    ensures { (paths : PathList) (protect : Protect) (given : List ObjectId) (checked ready new : StoreState) (error : EditError) → MayBeWritten paths protect given checked → IsReady given checked ready → WritePlainCauses paths (Some protect) ready new error → IsOfStore error }
+{}
+
+/// Where objects of the given ids are stored, the state is ready for what was checked before.
+pub fn stored_objects_make_ready()
+    ensures { (given : List ObjectId) (objects : List (Kind × List ℕ)) (before : Content) (checked ready : StoreState) → ((id : ObjectId) → has_id given id ≡ true → has_id (map (id_of checked.hash) objects) id ≡ true) → checked.content ≡ Some before → Becomes (all_stored objects checked) ready → IsReady given checked ready }
 {}

@@ -20,7 +20,6 @@ mod writing;
 pub use error::EditError;
 pub use leaf::Leaf;
 pub use object_ids::ObjectIds;
-pub use path::split_first_name;
 pub use path_edit::{PathEdit, PathEdits};
 pub use path_map::{PathEntries, PathEntry, PathMap};
 pub use stored_tree::read_map;

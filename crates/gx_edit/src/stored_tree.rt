@@ -4,7 +4,7 @@ ghost use Rattle.std.specs.Prelude.{IfOk, IfErr, IfSome};
 ghost use Rattle.gx_edit.specs.CanonicalTree.{Represents};
 ghost use Rattle.gx_edit.specs.PathList.{map_of};
 ghost use Rattle.gx_edit.specs.ReadMapCauses.{ReadMapCauses};
-ghost use Rattle.gx_edit.specs.SharedIds.{HasIdsOf};
+ghost use Rattle.gx_edit.specs.SharedIds.{HasIdsOf, HasNoNullId};
 
 mod leaves;
 mod listing;
@@ -33,6 +33,7 @@ pub fn read_map<S: Objects>(alloc: Global, store: &S, root: ObjectId) -> Result<
     ensures represents { IfOk result (λ map. IfSome (S.state store.now).content (λ content.
         Represents (S.state store.now).hash content root (map_of map))) }
     ensures ids { IfOk result (λ map. HasIdsOf (S.state store.now).hash (map_of map)) }
+    ensures own { IfOk result (λ map. HasNoNullId (S.state store.now).hash (map_of map)) }
     ensures refused { IfErr result (ReadMapCauses (S.state store.now) root) }
 {
     let mut leaves = BTreeMap::new(alloc);

@@ -43,9 +43,11 @@ pub fn spellings_read_back(id: &ObjectId)
     are_bytes(id.as_bytes());
 }
 
-/// An object's id has the bytes of an id of its kind, so these read back as the id.
+/// An object's id is of its kind and has the bytes of one, so these and its digits read back as the id.
 pub fn object_id_is_whole()
-    ensures { (hash : HashKind) (kind_name bytes : List ℕ) → id_from_bytes hash (bytes_of (object_id hash kind_name bytes)) ≡ Some (object_id hash kind_name bytes) }
+    ensures bytes { (hash : HashKind) (kind_name bytes : List ℕ) → id_from_bytes hash (bytes_of (object_id hash kind_name bytes)) ≡ Some (object_id hash kind_name bytes) }
+    ensures digits { (hash : HashKind) (kind_name bytes : List ℕ) → id_from_hex (hex_of (object_id hash kind_name bytes)) ≡ Ok (object_id hash kind_name bytes) }
+    ensures kind { (hash : HashKind) (kind_name bytes : List ℕ) → kind_of (object_id hash kind_name bytes) ≡ hash }
 {}
 
 fn are_bytes(bytes: &[u8])

@@ -1,12 +1,14 @@
 -- The digits of an id are those of its kind.
-use Rattle.std.proofs.Common.{◌≡◌, sym, subst, ℕ, suc, ◌+◌, ◌-◌, ◌/◌, ◌%◌, ◌<◌, List, [], ◌∷◌, length, slice_index, arith, inl, inr}
+use Rattle.std.proofs.Common.{◌≡◌, ◌∙◌, sym, ap, subst, ℕ, suc, ◌+◌, ◌-◌, ◌/◌, ◌%◌, ◌<◌, List, [], ◌∷◌, length, slice_index, arith, inl, inr}
 use Rattle.std.specs.List.{AllByRecursion}
 use Rattle.std.proofs.lemmas.Bool.{cases_lt}
 use Rattle.hex.specs.Hex.{IsBytes, lower_digits, encode_with, encode_lower}
 use Rattle.hex.proofs.HexLemmas.{length-encode_with}
 use Rattle.gx_hash.specs.HashKind.{kind_of, len_in_bytes}
-use Rattle.gx_hash.specs.ObjectId.{bytes_of, hex_of}
+use Rattle.gx_hash.specs.ObjectId.{object_id, bytes_of, hex_of}
+use Rattle.gx_hash.specs.declared.kind.HashKind.{HashKind}
 use Rattle.gx_hash.specs.declared.oid.ObjectId.{ObjectId}
+use Rattle.gx_hash.proofs.DigestLemmas.{object_id_size, object_id_range, object_id_kind}
 use Rattle.gx_object.specs.CommitSpelling.{IsLowerHexDigit, IsHexId}
 use Rattle.gx_object.proofs.HexIds.{decimal_digit, letter_digit}
 
@@ -31,3 +33,9 @@ id_digits id len range = record {
   size = omega (arith, length-encode_with lower_digits (bytes_of id), len);
   digits = digits_of (bytes_of id) range;
 }
+
+pub computed_digits : (hash : HashKind) (kind_name bytes : List ℕ) → IsHexId hash (hex_of (object_id hash kind_name bytes))
+computed_digits hash kind_name bytes =
+    let kind = object_id_kind hash kind_name bytes in
+    let size = object_id_size hash kind_name bytes ∙ ap len_in_bytes (sym kind) in
+    subst (λ k. IsHexId k (hex_of (object_id hash kind_name bytes))) kind (id_digits (object_id hash kind_name bytes) size (object_id_range hash kind_name bytes))

@@ -18,6 +18,7 @@ pub mod OneCommit
 pub mod OwnedCommits
 pub mod OwnedTags
 pub mod ParentLemmas
+pub mod ReadBack
 pub mod Splits
 pub mod TagFields
 pub mod TagLineLemmas

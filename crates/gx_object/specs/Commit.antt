@@ -45,11 +45,11 @@ header_line h = h.name ++ 32 ∷ flat_map folded_byte h.value ++ 10 ∷ []
 unfoldable pub commit_bytes : Commit → List ℕ
 commit_bytes c = head_bytes c.tree c.parents c.author c.committer ++ (encoding_line c.encoding ++ (flat_map header_line c.extra_headers ++ 10 ∷ c.message))
 
--- A header's name ends at the first space, and its line at a newline.
+-- A header's name ends at the first space, and its line at a newline. (Git, commit.c, "read_commit_extra_header_lines"; that it has a byte is ours)
 abbrev pub is_writable_header : OwnedHeader → Bool
 is_writable_header h = not (length h.name == 0) && list_all (λ b. not (b == 32) && not (b == 10)) h.name
 
--- an encoding is named in one line, which is not empty
+-- an encoding is named in one line, which is not empty (Git, git-commit, "Discussion"; that it is not empty is ours)
 abbrev pub is_writable_encoding : Option (List ℕ) → Bool
 is_writable_encoding None = true
 is_writable_encoding (Some text) = not (length text == 0) && list_all (λ b. not (b == 10)) text

@@ -3,7 +3,9 @@ use Rattle.std.specs.Prelude.{◌≡◌, ◌≢◌, ℕ, ◌≤◌, ◌*◌, ◌
 use Rattle.std.specs.List.{flat_map, AllByRecursion}
 use Rattle.std.specs.Option.{option_map}
 use Rattle.bstr.specs.BStr.{bstr_bytes}
-use Rattle.gx_hash.specs.HashKind.{len_in_bytes}
+use Rattle.gx_hash.specs.HashKind.{kind_of, len_in_bytes}
+use Rattle.gx_hash.specs.ObjectId.{hex_of}
+use Rattle.gx_hash.specs.declared.oid.ObjectId.{ObjectId}
 use Rattle.gx_hash.specs.declared.kind.HashKind.{HashKind}
 use Rattle.gx_object.specs.declared.commit.decode.ExtraHeader.{ExtraHeader}
 use Rattle.gx_object.specs.declared.commit.decode.CommitRef.{CommitRef}
@@ -48,19 +50,23 @@ pub record IsHexId (hash : HashKind) (text : List ℕ) : Type 0 where
   pub size : length text ≡ 2 * len_in_bytes hash
   pub digits : AllByRecursion IsLowerHexDigit text
 
+-- an id's digits are those of its kind, as they are of each id that a program holds
+abbrev pub HasOwnDigits : ObjectId → Type 0
+HasOwnDigits id = IsHexId (kind_of id) (hex_of id)
+
 -- the text has no newline
 abbrev pub IsOneLine : List ℕ → Type 0
 IsOneLine text = AllByRecursion (λ b. b ≢ 10) text
 
--- an encoding is named in one line, which is not empty
+-- an encoding is named in one line, which is not empty (Git, git-commit, "Discussion"; that it is not empty is ours)
 abbrev pub IsEncoding : List ℕ → Type 0
 IsEncoding text = (text ≢ []) × IsOneLine text
 
--- a header's name has at least one byte, no space and no newline
+-- a header's name has at least one byte, no space and no newline (Git, commit.c, "read_commit_extra_header_lines"; that it has a byte is ours)
 abbrev pub IsHeaderName : List ℕ → Type 0
 IsHeaderName name = (name ≢ []) × AllByRecursion (λ b. (b ≢ 32) × (b ≢ 10)) name
 
--- a value as it stands in an object: a space follows each of its newlines
+-- a value as it stands in an object: a space follows each of its newlines (Git, gitformat-signature, "Commit signatures")
 abbrev pub folded : List ℕ → List ℕ
 folded value = flat_map folded_byte value
 

@@ -32,7 +32,7 @@ identity_bytes who = who.name ++ codes " <" ++ who.email ++ codes "> " ++ time_b
 abbrev pub is_writable_text : List ℕ → Bool
 is_writable_text text = list_all (λ b. not (b == 60) && not (b == 62) && not (b == 10)) text
 
--- an offset that two digits of hours can write: less than 100 hours either way
+-- an offset that two digits of hours can write: less than 100 hours either way (Git, date-formats, "Git internal format")
 abbrev pub is_writable_offset : ℤ → Bool
 is_writable_offset offset = nat_lt (unsigned_abs offset) 360000
 

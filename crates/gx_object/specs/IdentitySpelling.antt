@@ -31,6 +31,6 @@ pub record SpellsIdentity (line : List ℕ) (who : IdentityText) : Type 0 where
   pub name : DropsSpaceBehind before who.name
   pub time : DropsSpaceInFront behind who.time
 
--- an identity without white space at the ends of its name and email
+-- an identity without white space at the ends of its name and email (Git, ident.c, "split_ident_line", leaves it out behind the name; the other three ends are ours)
 abbrev pub trimmed : IdentityText → IdentityText
 trimmed who = record { name = trim_end (trim_start who.name); email = trim_end (trim_start who.email); time = who.time }

@@ -2,7 +2,7 @@
 use Rattle.std.specs.Prelude.{ℕ, ◌+◌, ◌-◌, ◌==◌, ◌&&◌, ◌||◌, not, nat_le, Bool, List, length, take, drop, map, reverse, Option, Some, None, if◌then◌else◌}
 use Rattle.std.specs.List.{zip, position, position_or_len, slice_split, join_with_byte}
 
--- space, tab, newline, vertical tab, form feed and carriage return
+-- space, tab, newline, vertical tab, form feed and carriage return (C, `isspace`; Git's own, in ctype.c, has neither vertical tab nor form feed)
 abbrev pub is_space : ℕ → Bool
 is_space b = b == 32 || (nat_le 9 b && nat_le b 13)
 

@@ -36,7 +36,7 @@ tag_head_bytes t = id_line (codes "object ") t.target ++ (type_line t.target_kin
 unfoldable pub tag_bytes : Tag → List ℕ
 tag_bytes t = tag_head_bytes t ++ (10 ∷ t.message ++ signature_bytes t.signature)
 
--- a tag is named in one line, which is not empty
+-- a tag is named in one line, which is not empty (Git, git-mktag, "Tag Format"; that git-check-ref-format allows it is not asked)
 abbrev pub is_writable_tag_name : List ℕ → Bool
 is_writable_tag_name name = not (length name == 0) && list_all (λ b. not (b == 10)) name
 

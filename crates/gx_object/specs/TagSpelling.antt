@@ -30,7 +30,7 @@ tag_text t = record {
   signature = option_map bstr_bytes t.signature;
 }
 
--- a tag is named in one line, which is not empty
+-- a tag is named in one line, which is not empty (Git, git-mktag, "Tag Format"; that git-check-ref-format allows it is not asked)
 abbrev pub IsTagName : List ℕ → Type 0
 IsTagName name = (name ≢ []) × IsOneLine name
 

@@ -30,12 +30,20 @@ impl WriteTo for Blob {
 #[cfg(test)]
 mod tests {
     use super::*;
+    use crate::samples::is_object;
+    use gx_hash::HashKind;
+
+    fn spelled_blob(alloc: Global, text: &[u8]) -> Result<Bytes, EncodeError> {
+        let blob = Blob {
+            bytes: Bytes::from_slice(alloc, text)?,
+        };
+        blob.to_bytes(alloc)
+    }
 
     #[test]
     fn blob_is_spelled(rt: HostRuntime) {
-        let blob = Blob {
-            bytes: Bytes::new(rt.alloc()),
-        };
-        assert!(rt; blob.to_bytes(rt.alloc()).is_ok());
+        let blob = spelled_blob(rt.alloc(), b"a\n");
+        let digits = b"78981922613b2afb6025042ff6bd878ac1994e85";
+        assert!(rt; is_object(HashKind::Sha1, b"blob", &blob, 2, digits));
     }
 }

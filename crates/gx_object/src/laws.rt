@@ -1,7 +1,8 @@
-//! What follows from the definitions, for proofs to cite. The functions do nothing.
+//! What follows from the definitions, for proofs to cite. The functions change nothing.
 ghost use Rattle.std.specs.Prelude.{◌≡◌, ℕ, List, [], None, Some, All, true};
-ghost use Rattle.gx_hash.specs.HashKind.{kind_of};
-ghost use Rattle.gx_hash.specs.ObjectId.{bytes_of, hex_of};
+ghost use Rattle.std.specs.List.{AllByRecursion};
+ghost use Rattle.gx_hash.specs.HashKind.{kind_of, IsOfKind};
+ghost use Rattle.gx_hash.specs.ObjectId.{object_id, bytes_of, hex_of};
 ghost use Rattle.gx_hash.specs.declared.kind.HashKind.{HashKind};
 ghost use Rattle.hex.specs.Hex.{IsBytes};
 ghost use Rattle.gx_object.specs.declared.commit.Commit.{Commit};
@@ -10,12 +11,12 @@ ghost use Rattle.gx_object.specs.declared.signature.Time.{Time};
 ghost use Rattle.gx_object.specs.declared.tag.Tag.{Tag};
 ghost use Rattle.gx_object.specs.declared.tree.Entry.{Entry};
 ghost use Rattle.gx_object.specs.Commit.{commit_bytes, plain_commit_bytes};
-ghost use Rattle.gx_object.specs.CommitSpelling.{CommitText, IsHexId, SpellsCommit};
+ghost use Rattle.gx_object.specs.CommitSpelling.{CommitText, HasOwnDigits, IsHexId, SpellsCommit};
 ghost use Rattle.gx_object.specs.Identity.{identity_bytes, time_bytes, is_writable_offset};
 ghost use Rattle.gx_object.specs.IdentitySpelling.{IdentityText, SpellsIdentity};
 ghost use Rattle.gx_object.specs.Kind.{kind_name, kind_named};
 ghost use Rattle.gx_object.specs.Mode.{mode_of, kind_of_mode};
-ghost use Rattle.gx_object.specs.OwnedCommit.{IsCopyOf};
+ghost use Rattle.gx_object.specs.OwnedCommit.{IsCopyOf, IsOfHash};
 ghost use Rattle.gx_object.specs.OwnedTag.{OwnsTag};
 ghost use Rattle.gx_object.specs.Tag.{tag_bytes};
 ghost use Rattle.gx_object.specs.TagSpelling.{TagText, SpellsTag};
@@ -24,7 +25,7 @@ ghost use Rattle.gx_object.specs.Tree.{tree_bytes};
 ghost use Rattle.gx_object.specs.TreeSpelling.{SpellsTree, ReadsUpTo, HasSpelling};
 ghost use Rattle.gx_object.specs.WrittenText.{written_identity, written_commit, written_tag, HasSeconds, IsWholeMinutes, CanWriteIdentity, CanWriteCommit, TaggerHas, CanWriteTag};
 
-use crate::{Commit, EntryKind, Kind};
+use crate::{Commit, EntryKind, Kind, Tag};
 use gx_hash::ObjectId;
 
 /// A commit without an encoding and without further headers is spelled as `push_commit` writes it.
@@ -85,9 +86,10 @@ pub fn time_is_spelled_once()
     ensures { (text : List ℕ) (a b : Time) → SpellsTime text a → SpellsTime text b → a ≡ b }
 {}
 
-/// The digits of an id are those of an id in a header.
+/// The digits of an id are those of an id in a header, and so are those of an object's id.
 pub fn id_has_digits(id: &ObjectId)
-    ensures { IsHexId (kind_of id.now) (hex_of id.now) }
+    ensures held { IsHexId (kind_of id.now) (hex_of id.now) }
+    ensures computed { (hash : HashKind) (kind_name bytes : List ℕ) → IsHexId hash (hex_of (object_id hash kind_name bytes)) }
 {
     are_bytes(id.as_bytes());
 }
@@ -102,14 +104,48 @@ pub fn written_identity_is_read()
     ensures time { (time : Time) → HasSeconds time → is_writable_offset time.offset ≡ true → IsWholeMinutes time.offset → SpellsTime (time_bytes time) time }
 {}
 
-/// What is written of a commit spells it, and the commit is a copy of what is read there, where its offsets are whole minutes.
+/// What is written of a commit spells it, and the commit is a copy of what is read there, where its offsets are whole minutes. No other commit with ids of that kind is a copy of it.
 pub fn written_commit_is_read()
     ensures spelled { (hash : HashKind) (c : Commit) → CanWriteCommit hash c → SpellsCommit hash (commit_bytes c) (written_commit c) }
     ensures copy { (hash : HashKind) (c : Commit) → CanWriteCommit hash c → IsWholeMinutes c.author.time.offset → IsWholeMinutes c.committer.time.offset → IsCopyOf (written_commit c) c }
+    ensures back { (hash : HashKind) (c owned : Commit) (text : CommitText) → CanWriteCommit hash c → IsWholeMinutes c.author.time.offset → IsWholeMinutes c.committer.time.offset → IsOfHash hash c → IsOfHash hash owned → SpellsCommit hash (commit_bytes c) text → IsCopyOf text owned → owned ≡ c }
 {}
 
-/// What is written of a tag spells it, and the tag is a copy of what is read there, where its offset is whole minutes.
+/// A commit that is written, read and copied is itself: its ids are of the kind of their digits.
+pub fn commit_reads_back(commit: &Commit, copy: &Commit)
+    ensures { (hash : HashKind) (text : CommitText) → CanWriteCommit hash commit.now → IsWholeMinutes commit.now.author.time.offset → IsWholeMinutes commit.now.committer.time.offset → SpellsCommit hash (commit_bytes commit.now) text → IsCopyOf text copy.now → copy.now ≡ commit.now }
+{
+    ids_have_digits(commit);
+    ids_have_digits(copy);
+}
+
+/// And so is a tag.
+pub fn tag_reads_back(tag: &Tag, copy: &Tag)
+    ensures { (hash : HashKind) (text : TagText) → CanWriteTag hash tag.now → TaggerHas (λ time. IsWholeMinutes time.offset) tag.now.tagger → SpellsTag hash (tag_bytes tag.now) text → OwnsTag text copy.now → copy.now ≡ tag.now }
+{
+    id_has_digits(&tag.target);
+    id_has_digits(&copy.target);
+}
+
+fn ids_have_digits(commit: &Commit)
+    ensures tree { HasOwnDigits commit.now.tree }
+    ensures parents { AllByRecursion HasOwnDigits commit.now.parents }
+{
+    id_has_digits(&commit.tree);
+    have_digits(commit.parents.as_slice());
+}
+
+fn have_digits(ids: &[ObjectId])
+    ensures { AllByRecursion HasOwnDigits ids.now }
+{
+    for id in ids {
+        id_has_digits(id);
+    }
+}
+
+/// What is written of a tag spells it, and the tag is a copy of what is read there, where its offset is whole minutes. No other tag with an id of that kind is a copy of it.
 pub fn written_tag_is_read()
     ensures spelled { (hash : HashKind) (t : Tag) → CanWriteTag hash t → SpellsTag hash (tag_bytes t) (written_tag t) }
     ensures copy { (hash : HashKind) (t : Tag) → CanWriteTag hash t → TaggerHas (λ time. IsWholeMinutes time.offset) t.tagger → OwnsTag (written_tag t) t }
+    ensures back { (hash : HashKind) (t owned : Tag) (text : TagText) → CanWriteTag hash t → TaggerHas (λ time. IsWholeMinutes time.offset) t.tagger → IsOfKind hash t.target → IsOfKind hash owned.target → SpellsTag hash (tag_bytes t) text → OwnsTag text owned → owned ≡ t }
 {}

@@ -163,11 +163,15 @@ fn is_space(byte: u8) -> bool
 mod tests {
     use super::*;
 
-    fn is_summary(alloc: Global, message: &[u8], wanted: &[u8]) -> bool {
-        match summary(alloc, message) {
+    fn is_line(line: &Result<Bytes, NoMemory>, wanted: &[u8]) -> bool {
+        match line {
             Ok(line) => line.as_slice() == wanted,
             Err(_) => false,
         }
+    }
+
+    fn is_summary(alloc: Global, message: &[u8], wanted: &[u8]) -> bool {
+        is_line(&summary(alloc, message), wanted)
     }
 
     #[test]
@@ -198,6 +202,7 @@ mod tests {
 
     #[test]
     fn parts_have_a_summary(rt: HostRuntime) {
-        assert!(rt; MessageRef::from_bytes(b"t\n").summary(rt.alloc()).is_ok());
+        let parts = MessageRef::from_bytes(b" t \nu\n\nb");
+        assert!(rt; is_line(&parts.summary(rt.alloc()), b"t u"));
     }
 }

@@ -1,16 +1,14 @@
 -- The loop that follows a chain.
-use Rattle.std.proofs.Common.{◌≡◌, ◌∙◌, ◌+◌, ◌<◌, ◌≤◌, sym, ap, refl, subst, ℕ, true, false, List, [], ◌∷◌, ◌++◌, length, Option, Some, None, IfSome, IsTrue, arith}
-use Rattle.std.specs.FinMap.{FinMap, get}
-use Rattle.gx_rules.specs.Name.{name_cmp}
+use Rattle.std.proofs.Common.{◌≡◌, ◌+◌, ◌<◌, sym, refl, subst, ℕ, true, false, List, [], ◌∷◌, ◌++◌, length, Option, Some, None, IfSome, arith}
+use Rattle.std.specs.FinMap.{get}
 use Rattle.gx_store.specs.State.{StoreState, RefState, IsUnreadable, OfFault}
 use Rattle.gx_store.specs.declared.target.Target.{Target}
 use Rattle.gx_store.specs.declared.target.Target.TheVariants as target
-use Rattle.gx_store.specs.declared.error.What.{What}
 use Rattle.gx_store.specs.declared.error.What.TheVariants as what
 use Rattle.gx_store.specs.declared.error.StoreError.{StoreError}
 use Rattle.gx_store.specs.declared.error.StoreError.TheVariants as store_error
 use Rattle.gx_refs.specs.Errors.{handed_on}
-use Rattle.gx_refs.specs.Chain.{is_among, IsPath, IsChain, WalksTo, IsEnd, EndsIn, Cycles, IsTooDeep, ChainCauses, IsChainFault}
+use Rattle.gx_refs.specs.Chain.{is_among, IsPath, IsChain, WalksTo, IsEnd, EndsIn, ChainCauses, IsChainFault}
 use Rattle.gx_refs.specs.declared.error.RefError.TheVariants as error
 use Rattle.gx_refs.proofs.PathLemmas.{path_more, chain_more}
 

@@ -1,11 +1,11 @@
 -- The fate of a name: there is one, and one alone.
-use Rattle.std.proofs.Common.{◌≡◌, ◌∙◌, ◌+◌, ◌<◌, ◌≤◌, sym, ap, refl, subst, ℕ, zero, suc, Bool, true, false, List, [], ◌∷◌, ◌++◌, length, Option, Some, None, inl, inr, ◌⊎◌, arith}
+use Rattle.std.proofs.Common.{◌≡◌, ◌∙◌, ◌+◌, ◌<◌, sym, ap, refl, subst, ℕ, zero, suc, Bool, true, false, List, [], ◌∷◌, ◌++◌, length, Option, Some, None, inl, inr, ◌⊎◌, arith}
 use Rattle.std.proofs.lemmas.List.{length-append}
 use Rattle.std.specs.FinMap.{FinMap, get}
 use Rattle.gx_rules.specs.Name.{name_cmp}
 use Rattle.gx_store.specs.declared.target.Target.{Target}
 use Rattle.gx_store.specs.declared.target.Target.TheVariants as target
-use Rattle.gx_refs.specs.Chain.{is_among, LeadsTo, IsPath, IsChain, IsWalked, WalksTo, IsEnd, EndsIn, Ends, CyclesAlong, GoesTooDeep}
+use Rattle.gx_refs.specs.Chain.{is_among, LeadsTo, IsPath, IsWalked, WalksTo, IsEnd, Ends, CyclesAlong, GoesTooDeep}
 use Rattle.gx_refs.specs.Laws.{Fate, Ending, Cycling, TooDeep, Meets, EachMeets, MeetsOne}
 use Rattle.gx_refs.proofs.NameLemmas.{distinct_new, last_same}
 use Rattle.gx_refs.proofs.PathLemmas.{path_more, step_behind, one_target, one_way, GoesOn, chain_more}

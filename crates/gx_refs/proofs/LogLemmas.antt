@@ -1,18 +1,19 @@
 -- Which logs are written to.
 use Rattle.std.proofs.Common.{◌≡◌, ◌∙◌, sym, ap, refl, ℕ, Bool, true, false, cond, ◌||◌, ◌&&◌, List, [], ◌∷◌, ◌++◌, filter, Option, Some, None, IfSome, unwrap_or, Result, Ok, Err, IfOk}
 use Rattle.std.specs.Str.{bytes_eq}
-use Rattle.std.specs.Ordering.{eq_by_cmp}
 use Rattle.std.specs.Cmp.Lexicographic.{nat_list_cmp_total, texts_ties}
 use Rattle.std.specs.FinMap.{FinMap, get, contains_key, insert, get-insert}
 use Rattle.gx_rules.specs.Name.{name_cmp}
 use Rattle.gx_store.specs.declared.log_line.LogLine.{LogLine}
-use Rattle.gx_store.specs.State.{RefState}
+use Rattle.gx_store.specs.State.{StoreState, RefState, IsUnreadable, IfFault}
 use Rattle.gx_store.specs.declared.error.StoreError.{StoreError}
+use Rattle.gx_store.specs.declared.error.StoreError.TheVariants as store_error
+use Rattle.gx_store.specs.declared.error.What.TheVariants as what
 use Rattle.gx_refs.specs.Chain.{is_among, AreDistinct}
-use Rattle.gx_refs.specs.Log.{is_made, is_due, is_due_where, with_line}
+use Rattle.gx_refs.specs.Log.{is_made, is_due, is_due_where, GoesByLog, IsLogFault, with_line}
 use Rattle.gx_refs.specs.Laws.{LogsGain}
 use Rattle.gx_refs.specs.declared.log.WriteReflog.{WriteReflog}
-use Rattle.gx_refs.specs.declared.log.WriteReflog.TheVariants.{Normal, Always, Disable}
+use Rattle.gx_refs.specs.declared.log.WriteReflog.TheVariants.{Normal}
 use Rattle.gx_refs.proofs.NameLemmas.{same_name, turned, own_name}
 
 -- whether there is a log decides, where nothing else does
@@ -26,6 +27,18 @@ as_there_is_told told force name (Err e) off not_made h = tt
 as_there_is_told None force name (Ok has_log) off not_made h = tt
 as_there_is_told (Some refs) force name (Ok has_log) off not_made h =
     h ∙ sym (ap (λ t. t || is_made Normal name || contains_key refs.logs name) off ∙ ap (λ t. t || contains_key refs.logs name) not_made)
+
+-- where it is neither forced nor made, the log that is there decides
+goes_by_log : (force : Bool) (name : List ℕ) → force ≡ false → is_made Normal name ≡ false → GoesByLog Normal force name
+goes_by_log force name off not_made = (at false, at true)
+  where
+    at : (has_log : Bool) → (force || is_made Normal name || has_log) ≡ has_log
+    at has_log = ap (λ t. t || is_made Normal name || has_log) off ∙ ap (λ t. t || has_log) not_made
+
+pub fault_of_log : (state : StoreState) (force : Bool) (name : List ℕ) (r : Result Bool StoreError) → force ≡ false → is_made Normal name ≡ false → IfFault r (IsUnreadable state (what.Name name)) → IfFault r (IsLogFault state Normal force name)
+fault_of_log state force name (Ok has_log) off not_made h = tt
+fault_of_log state force name (Err store_error.NoMemory) off not_made h = tt
+fault_of_log state force name (Err (store_error.Fault fault)) off not_made h = (goes_by_log force name off not_made, h)
 
 abbrev Gained : Bool → LogLine → Option (List LogLine) → Option (List LogLine)
 Gained due line log = cond due (Some (unwrap_or log [] ++ line ∷ [])) log

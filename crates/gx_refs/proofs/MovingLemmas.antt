@@ -11,7 +11,7 @@ use Rattle.gx_hash.specs.HashKind.{IsOfKind, kind_of}
 use Rattle.gx_hash.specs.ObjectId.{null_id}
 use Rattle.gx_object.specs.declared.signature.Signature.{Signature}
 use Rattle.gx_rules.specs.Name.{name_cmp}
-use Rattle.gx_store.specs.State.{StoreState, RefState, IsUnreadable, OfFault}
+use Rattle.gx_store.specs.State.{StoreState, RefState, OfFault}
 use Rattle.gx_store.specs.Change.{refs_after, targets_after, logs_after, with_log, HaveDistinctNames}
 use Rattle.gx_store.specs.Kinds.{IsTargetOfKind, IsLineOfKind, IsTargetChangeOfKind, IsActOfKind, AreChangesOfKind}
 use Rattle.gx_store.specs.declared.target.Target.{Target}
@@ -19,14 +19,11 @@ use Rattle.gx_store.specs.declared.target.Target.TheVariants as target
 use Rattle.gx_store.specs.declared.log_line.LogLine.{LogLine}
 use Rattle.gx_store.specs.declared.change.TargetChange.{TargetChange}
 use Rattle.gx_store.specs.declared.change.TargetChange.TheVariants.{Keep, Set}
-use Rattle.gx_store.specs.declared.change.LogAct.{LogAct}
 use Rattle.gx_store.specs.declared.change.RefChange.{RefChange}
-use Rattle.gx_store.specs.declared.error.What.{What}
-use Rattle.gx_store.specs.declared.error.What.TheVariants as what
 use Rattle.gx_store.specs.declared.error.StoreError.{StoreError}
 use Rattle.gx_store.specs.declared.error.StoreError.TheVariants.{NoMemory, Fault}
 use Rattle.gx_refs.specs.Chain.{is_among, AreDistinct}
-use Rattle.gx_refs.specs.Log.{is_due, is_due_where, with_line, log_line}
+use Rattle.gx_refs.specs.Log.{is_due, is_due_where, IsLogFault, with_line, log_line}
 use Rattle.gx_refs.specs.Moving.{previous_id, moved, act_of, change_at, IsChangeAt, targets_along, MovesAlong, IsFaultAt}
 use Rattle.gx_refs.specs.declared.log.WriteReflog.{WriteReflog}
 use Rattle.gx_refs.proofs.NameLemmas.{own_name, last_same, distinct_changes}
@@ -168,9 +165,9 @@ among_within name (x ∷ before) rest = go (bytes_eq x name) (among_within name 
     go true e = refl
     go false e = e
 
-pub fault_at : (state : StoreState) (name : List ℕ) (before rest names : List (List ℕ)) (e : StoreError) → names ≡ before ++ name ∷ rest → OfFault e (IsUnreadable state (what.Name name)) → OfFault e (IsFaultAt state names)
-fault_at state name before rest names NoMemory is h = tt
-fault_at state name before rest names (Fault fault) is h = (name, ap (is_among name) is ∙ among_within name before rest, h)
+pub fault_at : (state : StoreState) (mode : WriteReflog) (name : List ℕ) (before rest names : List (List ℕ)) (e : StoreError) → names ≡ before ++ name ∷ rest → OfFault e (IsLogFault state mode false name) → OfFault e (IsFaultAt state mode names)
+fault_at state mode name before rest names NoMemory is h = tt
+fault_at state mode name before rest names (Fault fault) is h = (name, ap (is_among name) is ∙ among_within name before rest, h)
 
 -- ---- names and the last of them
 
@@ -179,8 +176,8 @@ parted names end some is =
     sym (take_all (length names - 1 + 1) names (omega arith)) ∙ take_more names (length names - 1) end (omega arith) ∙ ap (λ x. take (length names - 1) names ++ x ∷ []) (sym is)
 
 -- what faults of `change_at` are, for the names before the last and for the last
-pub fault_before : (state : StoreState) (names : List (List ℕ)) (at : ℕ) (name : List ℕ) (end : List ℕ) (e : StoreError) → names ≡ take (length names - 1) names ++ end ∷ [] → at < length (take (length names - 1) names) → name ≡ get_or (take (length names - 1) names) at name → OfFault e (IsUnreadable state (what.Name name)) → OfFault e (IsFaultAt state names)
-fault_before state names at name end e parts here is h =
+pub fault_before : (state : StoreState) (mode : WriteReflog) (names : List (List ℕ)) (at : ℕ) (name : List ℕ) (end : List ℕ) (e : StoreError) → names ≡ take (length names - 1) names ++ end ∷ [] → at < length (take (length names - 1) names) → name ≡ get_or (take (length names - 1) names) at name → OfFault e (IsLogFault state mode false name) → OfFault e (IsFaultAt state mode names)
+fault_before state mode names at name end e parts here is h =
     let way = take (length names - 1) names in
     let split : way ≡ take at way ++ name ∷ drop (at + 1) way = sym (take-append-drop at way) ∙ ap (λ ys. take at way ++ ys) (at_drop_more (λ ys. ys) way at name here ∙ ap (λ x. x ∷ drop (at + 1) way) (sym is)) in
-    fault_at state name (take at way) (drop (at + 1) way ++ end ∷ []) names e (parts ∙ ap (λ xs. xs ++ end ∷ []) split ∙ append_assoc (take at way) (name ∷ drop (at + 1) way) (end ∷ [])) h
+    fault_at state mode name (take at way) (drop (at + 1) way ++ end ∷ []) names e (parts ∙ ap (λ xs. xs ++ end ∷ []) split ∙ append_assoc (take at way) (name ∷ drop (at + 1) way) (end ∷ [])) h

@@ -1,12 +1,12 @@
 -- Paths of symbolic references, and how they go on.
-use Rattle.std.proofs.Common.{◌≡◌, ◌∙◌, ◌+◌, ◌<◌, ◌≤◌, sym, ap, refl, subst, ℕ, Bool, true, false, List, [], ◌∷◌, ◌++◌, length, Some, inl, inr, ◌⊎◌, arith}
+use Rattle.std.proofs.Common.{◌≡◌, ◌∙◌, ◌+◌, ◌<◌, sym, ap, refl, subst, ℕ, false, List, [], ◌∷◌, ◌++◌, length, Some, inl, inr, ◌⊎◌, arith}
 use Rattle.std.proofs.Math.Seq.{append_snoc}
 use Rattle.std.proofs.lemmas.List.{length-append}
-use Rattle.std.specs.FinMap.{FinMap, get}
+use Rattle.std.specs.FinMap.{FinMap}
 use Rattle.gx_rules.specs.Name.{name_cmp}
 use Rattle.gx_store.specs.declared.target.Target.{Target}
 use Rattle.gx_store.specs.declared.target.Target.TheVariants as target
-use Rattle.gx_refs.specs.Chain.{is_among, LeadsTo, IsPath, IsChain, IsWalked}
+use Rattle.gx_refs.specs.Chain.{is_among, LeadsTo, IsPath, IsChain}
 use Rattle.gx_refs.proofs.NameLemmas.{distinct_more}
 
 -- a path and one step more

@@ -1,11 +1,14 @@
 -- Which reflogs a change of a reference writes to, and what it writes.
-use Rattle.std.specs.Prelude.{ℕ, Bool, false, true, ◌||◌, ◌==◌, List, [], ◌∷◌, ◌++◌, map, filter, codes, bytes_eq, nat_eq, unwrap_or, if◌then◌else◌}
+use Rattle.std.specs.Prelude.{◌≡◌, ℕ, Bool, false, true, ◌||◌, ◌==◌, List, [], ◌∷◌, ◌++◌, map, filter, codes, bytes_eq, nat_eq, unwrap_or, if◌then◌else◌}
 use Rattle.std.specs.List.{starts_with}
 use Rattle.std.specs.FinMap.{FinMap, get, insert, contains_key}
 use Rattle.gx_hash.specs.declared.oid.ObjectId.{ObjectId}
 use Rattle.gx_rules.specs.Name.{name_cmp}
 use Rattle.gx_object.specs.declared.signature.Signature.{Signature}
+use Rattle.gx_store.specs.State.{StoreState, IsUnreadable}
 use Rattle.gx_store.specs.declared.log_line.LogLine.{LogLine}
+use Rattle.gx_store.specs.declared.error.What.{What}
+use Rattle.gx_store.specs.declared.error.What.TheVariants as what
 use Rattle.gx_refs.specs.declared.log.WriteReflog.{WriteReflog}
 use Rattle.gx_refs.specs.declared.log.WriteReflog.TheVariants.{Normal, Always, Disable}
 
@@ -23,6 +26,14 @@ is_due_where Disable force has_log name = false
 
 abbrev pub is_due : WriteReflog → FinMap name_cmp (List LogLine) → Bool → List ℕ → Bool
 is_due mode logs force name = is_due_where mode force (contains_key logs name) name
+
+-- whether a line is due goes by the log that is there: it is due with one and not without
+abbrev pub GoesByLog : WriteReflog → Bool → List ℕ → Type 0
+GoesByLog mode force name = (is_due_where mode force false name ≡ false) × (is_due_where mode force true name ≡ true)
+
+-- A fault comes only where it goes by the log, and names the name, which can't be read.
+abbrev pub IsLogFault : StoreState → WriteReflog → Bool → List ℕ → What → Type 0
+IsLogFault state mode force name fault = GoesByLog mode force name × IsUnreadable state (what.Name name) fault
 
 -- A newline in a message is a space in the log, whose lines are parted by newlines. (Ours; Git, refs.c, "copy_reflog_msg", draws other white space together too.)
 abbrev pub one_line : List ℕ → List ℕ

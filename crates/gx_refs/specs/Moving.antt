@@ -1,11 +1,11 @@
 -- How the end of a chain comes to name an object, and which logs tell it.
-use Rattle.std.specs.Prelude.{◌≡◌, ℕ, Bool, true, false, List, [], ◌∷◌, ◌++◌, map, Option, Some, None, if◌then◌else◌}
+use Rattle.std.specs.Prelude.{◌≡◌, ℕ, Bool, true, false, List, [], ◌∷◌, map, Option, Some, None, if◌then◌else◌}
 use Rattle.std.specs.List.{AllByRecursion}
 use Rattle.std.specs.FinMap.{insert}
 use Rattle.gx_hash.specs.declared.kind.HashKind.{HashKind}
 use Rattle.gx_hash.specs.declared.oid.ObjectId.{ObjectId}
 use Rattle.gx_hash.specs.ObjectId.{null_id}
-use Rattle.gx_store.specs.State.{StoreState, RefState, IsUnreadable}
+use Rattle.gx_store.specs.State.{StoreState, RefState}
 use Rattle.gx_store.specs.declared.target.Target.{Target}
 use Rattle.gx_store.specs.declared.target.Target.TheVariants as target
 use Rattle.gx_store.specs.declared.log_line.LogLine.{LogLine}
@@ -15,9 +15,8 @@ use Rattle.gx_store.specs.declared.change.LogAct.{LogAct}
 use Rattle.gx_store.specs.declared.change.LogAct.TheVariants as log_act
 use Rattle.gx_store.specs.declared.change.RefChange.{RefChange}
 use Rattle.gx_store.specs.declared.error.What.{What}
-use Rattle.gx_store.specs.declared.error.What.TheVariants as what
 use Rattle.gx_refs.specs.Chain.{is_among}
-use Rattle.gx_refs.specs.Log.{is_due_where, appended}
+use Rattle.gx_refs.specs.Log.{is_due_where, IsLogFault, appended}
 use Rattle.gx_refs.specs.declared.log.WriteReflog.{WriteReflog}
 
 -- A line tells as the old id that of the end, or the null id where the end named no object. (git-update-ref(1), "Logging updates")
@@ -57,6 +56,6 @@ pub record MovesAlong (mode : WriteReflog) (names : List (List ℕ)) (id : Objec
   pub aimed : map (λ (change : RefChange). change.target) changes ≡ targets_along names id
   pub logged : AllByRecursion (λ (change : RefChange). (has_log : Bool) × (change.log ≡ act_of (is_due_where mode false has_log change.name) line)) changes
 
--- a fault names one of the names, which can't be read
-abbrev pub IsFaultAt : StoreState → List (List ℕ) → What → Type 0
-IsFaultAt state names fault = (name : List ℕ) × (is_among name names ≡ true) × IsUnreadable state (what.Name name) fault
+-- a fault names one of the names, which can't be read, and whose log decides whether it gets the line
+abbrev pub IsFaultAt : StoreState → WriteReflog → List (List ℕ) → What → Type 0
+IsFaultAt state mode names fault = (name : List ℕ) × (is_among name names ≡ true) × IsLogFault state mode false name fault

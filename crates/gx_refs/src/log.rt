@@ -1,9 +1,8 @@
 //! Lines of reflogs.
 
 ghost use Rattle.std.specs.Prelude.{◌≡◌, Bool, IfOk, IfSome};
-ghost use Rattle.gx_store.specs.State.{IfFault, IsUnreadable};
-ghost use Rattle.gx_store.specs.declared.error.What.TheVariants as part;
-ghost use Rattle.gx_refs.specs.Log.{is_made, is_due, is_due_where, one_line, log_line};
+ghost use Rattle.gx_store.specs.State.{IfFault};
+ghost use Rattle.gx_refs.specs.Log.{is_made, is_due, is_due_where, IsLogFault, one_line, log_line};
 
 use gx_hash::{Bytes, NoMemory, ObjectId};
 use gx_object::Signature;
@@ -32,7 +31,7 @@ fn is_made_normally(name: &[u8]) -> bool
         || name.starts_with(b"refs/notes/")
 }
 
-/// Whether a line is due for the name. Where that is so whichever logs there are, the store isn't asked.
+/// Whether a line is due for the name. A fault comes only where that goes by the log that is there.
 pub fn is_due<S: References>(
     alloc: Global,
     store: &S,
@@ -43,7 +42,7 @@ pub fn is_due<S: References>(
     ensures due { IfOk result (λ due. IfSome (S.state store.now).references (λ refs.
         due ≡ is_due mode refs.logs force name.now)) }
     ensures untold { IfOk result (λ due. (has_log : Bool) × (due ≡ is_due_where mode force has_log name.now)) }
-    ensures fault { IfFault result (IsUnreadable (S.state store.now) (part.Name name.now)) }
+    ensures fault { IfFault result (IsLogFault (S.state store.now) mode force name.now) }
 {
     match mode {
         WriteReflog::Disable => Ok(false),
@@ -61,7 +60,7 @@ fn is_due_normally<S: References>(
     ensures due { IfOk result (λ due. IfSome (S.state store.now).references (λ refs.
         due ≡ is_due WriteReflog.Normal refs.logs force name.now)) }
     ensures untold { IfOk result (λ due. (has_log : Bool) × (due ≡ is_due_where WriteReflog.Normal force has_log name.now)) }
-    ensures fault { IfFault result (IsUnreadable (S.state store.now) (part.Name name.now)) }
+    ensures fault { IfFault result (IsLogFault (S.state store.now) WriteReflog.Normal force name.now) }
 {
     if force || is_made_normally(name.as_slice()) {
         return Ok(true);

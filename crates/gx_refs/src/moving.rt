@@ -2,12 +2,11 @@
 
 ghost use Rattle.std.specs.Prelude.{◌≡◌, ◌++◌, ◌∷◌, [], ℕ, List, false, IfOk, IfSome};
 ghost use Rattle.gx_hash.specs.HashKind.{IsOfKind};
-ghost use Rattle.gx_store.specs.State.{IfFault, IsUnreadable};
-ghost use Rattle.gx_store.specs.declared.error.What.TheVariants as part;
+ghost use Rattle.gx_store.specs.State.{IfFault};
 ghost use Rattle.gx_store.specs.Change.{refs_after, HaveDistinctNames};
 ghost use Rattle.gx_store.specs.Kinds.{IsTargetOfKind, AreChangesOfKind};
 ghost use Rattle.gx_refs.specs.Chain.{AreDistinct};
-ghost use Rattle.gx_refs.specs.Log.{is_due, log_line};
+ghost use Rattle.gx_refs.specs.Log.{is_due, IsLogFault, log_line};
 ghost use Rattle.gx_refs.specs.Moving.{previous_id, moved, change_at, IsChangeAt, MovesAlong, IsFaultAt};
 
 use crate::{Chain, WriteReflog, is_due, log_line};
@@ -36,7 +35,7 @@ pub fn move_end<S: References>(
         IfOk result (λ changes. MovesAlong mode chain.now.names id line changes.items) }
     ensures names { IfOk result (λ changes. AreDistinct chain.now.names → HaveDistinctNames changes.items) }
     ensures kinds { IfOk result (λ changes. AreChangesOfKind (S.state store.now).hash changes.items) }
-    ensures fault { IfFault result (IsFaultAt (S.state store.now) chain.now.names) }
+    ensures fault { IfFault result (IsFaultAt (S.state store.now) mode chain.now.names) }
 {
     let previous = previous_id(id.kind(), &chain.target);
     let line = log_line(alloc, previous, id, signature, message)?;
@@ -55,7 +54,7 @@ fn changes_along<S: References>(
     ensures moved { IfOk result (λ changes. (before : List (List ℕ)) (end : List ℕ) → names.now ≡ before ++ end ∷ [] → IfSome (S.state store.now).references (λ refs.
         refs_after changes.items refs ≡ moved mode names.now end id line.now refs)) }
     ensures along { IfOk result (λ changes. MovesAlong mode names.now id line.now changes.items) }
-    ensures fault { IfFault result (IsFaultAt (S.state store.now) names.now) }
+    ensures fault { IfFault result (IsFaultAt (S.state store.now) mode names.now) }
 {
     let mut changes = Vec::new(alloc);
     let [way @ .., end] = names else {
@@ -93,7 +92,7 @@ fn change_at<S: References>(
     ensures change { IfOk result (λ change. IsChangeAt mode name.now target line.now change) }
     ensures told { IfOk result (λ change. IfSome (S.state store.now).references (λ refs.
         change ≡ change_at (is_due mode refs.logs false name.now) name.now target line.now)) }
-    ensures fault { IfFault result (IsUnreadable (S.state store.now) (part.Name name.now)) }
+    ensures fault { IfFault result (IsLogFault (S.state store.now) mode false name.now) }
 {
     let log = if is_due(alloc, store, mode, name, false)? {
         LogAct::Append(line.try_clone()?)

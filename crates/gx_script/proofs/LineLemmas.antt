@@ -1,5 +1,6 @@
 -- Lines are cut at their first spaces and tabs.
-use Rattle.std.proofs.Common.{◌≡◌, ◌≢◌, ◌∙◌, sym, ap, refl, subst, ℕ, ℤ, pos, negsuc, suc, ◌≤◌, ◌<◌, ◌^◌, List, [], ◌∷◌, ◌++◌, codes, arith, Option, FitsSigned}
+use Rattle.std.proofs.Common.{◌≡◌, ◌≢◌, ◌∙◌, sym, ap, refl, subst, ℕ, ℤ, pos, negsuc, suc, ◌≤◌, ◌<◌, ◌^◌, List, [], ◌∷◌, ◌++◌, arith, FitsSigned, Bool, true, false, cond, nat_eq, inl, inr}
+use Rattle.std.proofs.lemmas.Bool.Decides.{eqb_tells}
 use Rattle.std.specs.Int.{w32, w64}
 use Rattle.std.specs.Fmt.{decimal, signed_decimal}
 use Rattle.std.specs.Char.{digit_value}
@@ -8,9 +9,10 @@ use Rattle.std.proofs.lemmas.Fmt.{decimal_is_IsNumeral, decimal_injective}
 use Rattle.std.proofs.lemmas.List.{append_cancel_left}
 use Rattle.gx_object.specs.declared.signature.Signature.{Signature}
 use Rattle.gx_object.specs.declared.signature.Time.{Time}
-use Rattle.gx_script.specs.Script.{Without, IsIdentity, NoNewline, block_limit}
-use Rattle.gx_script.specs.Spelling.{who_text, put_line}
-use Rattle.gx_script.specs.Lines.{Splits, IsNoWho, IsNoSize, IsNoNumber, IsNoSigned, IsNoPut, IsRoom, signature_of}
+use Rattle.gx_script.specs.Items.{Without, NoNewline, block_limit}
+use Rattle.gx_script.specs.Fields.{IsIdentity}
+use Rattle.gx_script.specs.Fields.{who_text}
+use Rattle.gx_script.specs.Lines.{Splits, IsNoWho, IsNoSize, IsNoNumber, IsNoSigned, signature_of}
 use Rattle.gx_script.proofs.NumberLemmas.{fits_pos, fits_negsuc, wide}
 
 pub has_byte : (c : ℕ) (a x : List ℕ) → Without c (a ++ c ∷ x) → ⊥
@@ -59,7 +61,7 @@ no_line h = let k : 36 < 10 = h in absurd (omega arith)
 pub signed_space : (z : ℤ) → FitsSigned w64 z → Without 32 (signed_decimal z)
 signed_space z fits = signed_without 32 z no_space (λ e. absurd (omega arith)) fits
 
-signed_line : (z : ℤ) → FitsSigned w64 z → NoNewline (signed_decimal z)
+pub signed_line : (z : ℤ) → FitsSigned w64 z → NoNewline (signed_decimal z)
 signed_line z fits = signed_without 10 z no_line (λ e. absurd (omega arith)) fits
 
 -- The parts of an identity.
@@ -125,25 +127,17 @@ pub large_size : (bytes : List ℕ) (n : ℕ) → bytes ≡ decimal n → n < 2 
 large_size bytes n e small large size le f =
     let same : n ≡ size = decimal_injective n size small (omega arith) (sym e ∙ f) in large (omega arith)
 
+-- Literals have no newline.
+abbrev pub is_open : List ℕ → Bool
+is_open [] = true
+is_open (x ∷ xs) = cond (nat_eq x 10) false (is_open xs)
+
+pub opens : (xs : List ℕ) → is_open xs ≡ true → NoNewline xs
+opens [] e = tt
+opens (x ∷ xs) e = elim (eqb_tells x 10) [
+  | inl p ↦ let h : cond (nat_eq x 10) false (is_open xs) ≡ false = ap (λ b. cond b false (is_open xs)) p.0 in let no : false ≡ true = sym h ∙ e in absurd (cc)
+  | inr p ↦ (p.1, opens xs (sym (ap (λ b. cond b false (is_open xs)) p.0) ∙ e))
+]
+
 pub no_size : (bytes : List ℕ) → IsNoNumber bytes → IsNoSize bytes
 no_size bytes none size le e = none size (omega arith) e
-
-pub put_parts : (line rest size' path' : List ℕ) (size : ℕ) (path : List ℕ) → line ≡ codes "put file " ++ rest → Splits 32 rest size' path' → size ≤ block_limit → line ≡ put_line size path → (size' ≡ decimal size) × (path' ≡ path)
-put_parts line rest size' path' size path is s le e =
-    let same : rest ≡ decimal size ++ 32 ∷ path = append_cancel_left (codes "put file ") rest (decimal size ++ 32 ∷ path) (sym is ∙ e) in
-    same_split 32 size' (decimal size) path' path s.first (decimal_without 32 size no_space (omega arith)) (sym s.is ∙ same)
-
-pub put_no_space : (line rest : List ℕ) (room : Option ℕ) → line ≡ codes "put file " ++ rest → Without 32 rest → IsNoPut room line
-put_no_space line rest room is none size path le fits e =
-    has_byte 32 (decimal size) path (subst (Without 32) (append_cancel_left (codes "put file ") rest (decimal size ++ 32 ∷ path) (sym is ∙ e)) none)
-
-pub put_no_size : (line rest size' path' : List ℕ) (room : Option ℕ) → line ≡ codes "put file " ++ rest → Splits 32 rest size' path' → IsNoSize size' → IsNoPut room line
-put_no_size line rest size' path' room is s none size path le fits e = none size le (put_parts line rest size' path' size path is s le e).0
-
-pub put_no_room : (line rest size' path' : List ℕ) (room : Option ℕ) (n : ℕ) → line ≡ codes "put file " ++ rest → Splits 32 rest size' path' → n ≤ block_limit → size' ≡ decimal n → (IsRoom room n → ⊥) → IsNoPut room line
-put_no_room line rest size' path' room n is s small e other size path le fits f =
-    let same : size ≡ n = decimal_injective size n (omega arith) (omega arith) (sym (put_parts line rest size' path' size path is s le f).0 ∙ e) in
-    other (subst (IsRoom room) same fits)
-
-pub is_put : (line rest size' path' : List ℕ) (n : ℕ) → line ≡ codes "put file " ++ rest → Splits 32 rest size' path' → size' ≡ decimal n → line ≡ put_line n path'
-is_put line rest size' path' n is s e = is ∙ ap (λ l. codes "put file " ++ l) (s.is ∙ ap (λ l. l ++ 32 ∷ path') e)

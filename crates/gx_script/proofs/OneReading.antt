@@ -4,14 +4,18 @@ use Rattle.std.specs.List.{flat_map, AllByRecursion}
 use Rattle.std.proofs.lemmas.List.{append-nil}
 use Rattle.gx_hash.specs.declared.kind.HashKind.{HashKind}
 use Rattle.gx_script.specs.declared.request.Request.{Request}
-use Rattle.gx_script.specs.declared.request.Request.TheVariants.{Commit}
+use Rattle.gx_script.specs.Grammar.{AtFirst, AtOver, Leads}
+use Rattle.gx_script.specs.Items.{Item, Line, Block, item_text, items_text, ended, NoNewline}
 use Rattle.gx_script.specs.Laws.{HasNoRequest}
-use Rattle.gx_script.specs.Script.{NoNewline, IsPartialLine, IsPart, IsShort, IsRequest, Begins, IsMalformed, IsBad, StopsAt}
-use Rattle.gx_script.specs.Spelling.{Item, Line, Block, item_text, items_text, items_of, spelling, ended}
+use Rattle.gx_script.specs.Script.{IsPartialLine, IsPart, IsShort, IsRequest, Begins, IsMalformed, IsBad, StopsAt}
+use Rattle.gx_script.specs.Spelling.{items_of, spelling}
+use Rattle.gx_script.proofs.FormLemmas.{request_leads}
+use Rattle.gx_script.proofs.GrammarLemmas.{SameKind, AreAlike, open_ended, same_item, leads_alike}
 use Rattle.gx_script.proofs.LineLemmas.{has_byte, without_front}
-use Rattle.gx_script.proofs.ItemLemmas.{SameKind, AreAlike, open_ended, same_item}
-use Rattle.gx_script.proofs.CommitLemmas.{alike}
 use Rattle.gx_script.proofs.OneRequest.{same_request}
+
+alike : (hash : HashKind) (r s : Request) → IsRequest hash r → IsRequest hash s → AreAlike (items_of r) (items_of s)
+alike hash r s p q = leads_alike hash AtFirst (items_of r) (items_of s) (request_leads hash r p) (request_leads hash s q)
 
 -- At the front of the same bytes stands the same item, and behind it the same rest.
 first_item : (x y : Item) (xs ys : List Item) (a b : List ℕ) → SameKind x y → items_text (x ∷ xs) ++ a ≡ items_text (y ∷ ys) ++ b → (x ≡ y) × (items_text xs ++ a ≡ items_text ys ++ b)
@@ -31,9 +35,16 @@ unfolding spelling
 one_request hash r q a b p s e =
     let same = same_items (items_of r) (items_of q) a b (alike hash r q p s) e in (same_request hash r q p s same.0, same.1)
 
+some_text : (hash : HashKind) (items : List Item) (rest : List ℕ) → Leads hash AtFirst items AtOver → [] ≡ items_text items ++ rest → ⊥
+some_text hash [] rest p e = cc
+some_text hash ((Line []) ∷ items) rest p e = cc
+some_text hash ((Line (b ∷ line)) ∷ items) rest p e = cc
+some_text hash ((Block []) ∷ items) rest p e = cc
+some_text hash ((Block (b ∷ line)) ∷ items) rest p e = cc
+
 pub nothing_whole : (hash : HashKind) → HasNoRequest hash []
 unfolding spelling
-nothing_whole hash (Commit r) rest fits e = absurd (cc)
+nothing_whole hash r rest fits e = some_text hash (items_of r) rest (request_leads hash r fits) e
 
 -- A part of an item is not the whole of one.
 not_whole : (x y : Item) (part more : List ℕ) → SameKind x y → IsPart x part → part ≡ item_text y ++ more → ⊥

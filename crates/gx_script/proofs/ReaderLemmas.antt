@@ -9,10 +9,11 @@ use Rattle.memchr.specs.Find.{IsFirstByte, is_byte}
 use Rattle.gx_script.specs.declared.error.ScriptError.{ScriptError}
 use Rattle.gx_script.specs.declared.error.ScriptError.TheVariants.{Malformed, ReadFault, TooLong, NoMemory}
 use Rattle.gx_store.specs.Outside.{Takes}
-use Rattle.gx_script.specs.Script.{NoNewline, IsPartialLine, newlines_in, line_limit}
+use Rattle.gx_script.specs.Items.{NoNewline, line_limit}
+use Rattle.gx_script.specs.Script.{IsPartialLine, newlines_in}
 use Rattle.gx_script.specs.Reading.{Reading, Moves, Stays, Overruns, Fails, Anything, line_number}
 use Rattle.gx_script.specs.Steps.{TookOne, BeginsLine, FoundNewline, GivesLine, BadPieceAt, StopsPiece, LineStops, LineFails, given}
-use Rattle.gx_script.specs.Spelling.{ended}
+use Rattle.gx_script.specs.Items.{ended}
 use Rattle.gx_script.proofs.OutsideLemmas.{takes_none, takes_then, rose_before}
 
 -- A line is longer than its limit.

@@ -1,7 +1,15 @@
-pub mod CommitSteps
+pub mod Changes
+pub mod Commits
+pub mod Fields
+pub mod Grammar
+pub mod History
+pub mod Items
 pub mod Laws
 pub mod Lines
+pub mod NextEdit
+pub mod Notes
 pub mod Reading
+pub mod References
 pub mod Script
 pub mod Spelling
 pub mod Steps

@@ -43,6 +43,7 @@ pub record Overruns (Part : List ℕ → Type 0) (old : Reading) (left left' : O
   pub room : length taken ≡ old.room
   pub part : Part (old.held ++ taken)
 
+-- Nothing is said of the bytes.
 abbrev pub Anything : List ℕ → Type 0
 Anything bytes = Unit {0}
 

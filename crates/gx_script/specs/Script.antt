@@ -1,78 +1,44 @@
 -- Scripts: which bytes are requests one after another, and where other bytes go wrong. (Ours; docs/SCRIPT.md.)
-use Rattle.std.specs.Prelude.{◌≡◌, ◌≢◌, ℕ, ◌≤◌, List, [], ◌∷◌, ◌++◌, length, sum_by, codes, count_by, nat_eq, ◌⊎◌, false, FitsSigned}
-use Rattle.std.specs.Int.{w32, w64}
-use Rattle.std.specs.Char.{IsAsciiAlphabetic}
+use Rattle.std.specs.Prelude.{◌≡◌, ◌≢◌, ℕ, ◌≤◌, List, [], ◌∷◌, ◌++◌, length, sum_by, count_by, nat_eq}
 use Rattle.std.specs.List.{flat_map, AllByRecursion}
-use Rattle.gx_edit.specs.declared.path_edit.PathEdit.{PathEdit}
-use Rattle.gx_edit.specs.declared.path_edit.PathEdit.TheVariants.{File, Link, Module, Remove}
-use Rattle.gx_hash.specs.HashKind.{IsOfKind}
 use Rattle.gx_hash.specs.declared.kind.HashKind.{HashKind}
-use Rattle.gx_object.specs.declared.signature.Signature.{Signature}
-use Rattle.gx_script.specs.declared.request.CommitRequest.{CommitRequest}
+use Rattle.gx_rules.specs.Name.{IsFullName}
 use Rattle.gx_script.specs.declared.request.Request.{Request}
-use Rattle.gx_script.specs.declared.request.Request.TheVariants.{Commit}
-use Rattle.gx_script.specs.Spelling.{Item, Line, Block, items_text, items_of, spelling}
+use Rattle.gx_script.specs.declared.request.Request.TheVariants.{Commit, Identity, Tag, Ref, Delete, Refs, Log, Paths, Walk, Bases, Octopus, Describe, NoteSet, NoteDrop, NoteGet, Head, Namespace}
+use Rattle.gx_script.specs.Commits.{IsCommit}
+use Rattle.gx_script.specs.Fields.{IsId, IsIdentity, IsExpect}
+use Rattle.gx_script.specs.History.{IsWalk, IsBases, IsOctopus, IsDescribe}
+use Rattle.gx_script.specs.Items.{Item, Line, Block, NoNewline, items_text, line_limit, block_limit, blocks_limit}
+use Rattle.gx_script.specs.Notes.{IsNote, IsNoteGet}
+use Rattle.gx_script.specs.References.{IsTag, IsRef, IsPrefix, IsNamespace}
+use Rattle.gx_script.specs.Spelling.{items_of, spelling}
 
--- The most bytes of a line before its newline.
-abbrev pub line_limit : ℕ
-line_limit = 65536
-
--- The most bytes of a block, and of all blocks of a request.
-abbrev pub block_limit : ℕ
-block_limit = 268435456
-
-abbrev pub blocks_limit : ℕ
-blocks_limit = 1073741824
-
--- The most edits of a commit.
-abbrev pub edit_limit : ℕ
-edit_limit = 65536
-
--- The bytes have no such byte.
-abbrev pub Without : ℕ → List ℕ → Type 0
-Without byte bytes = AllByRecursion (λ b. b ≢ byte) bytes
-
-abbrev pub NoNewline : List ℕ → Type 0
-NoNewline bytes = Without 10 bytes
-
--- `HEAD`, or a branch whose short name is one or more ASCII letters.
-abbrev pub IsScriptName : List ℕ → Type 0
-IsScriptName name = (name ≡ codes "HEAD") ⊎ ((letters : List ℕ) × (letters ≢ []) × AllByRecursion IsAsciiAlphabetic letters × (name ≡ codes "refs/heads/" ++ letters))
-
--- Seconds fit an i64 and offsets an i32; name and email have no tab and no newline.
-pub record IsIdentity (who : Signature) : Type 0 where
-  pub seconds : FitsSigned w64 who.time.seconds
-  pub offset : FitsSigned w32 who.time.offset
-  pub name : Without 9 who.name
-  pub name_line : NoNewline who.name
-  pub email : Without 9 who.email
-  pub email_line : NoNewline who.email
-
--- A file that can't be executed, at a path that fits a line.
-abbrev pub IsEdit : PathEdit → Type 0
-IsEdit (File path bytes executable) = (executable ≡ false) × NoNewline path
-IsEdit (Link path bytes) = ⊥
-IsEdit (Module path id) = ⊥
-IsEdit (Remove path) = ⊥
-
--- Ids are of the repository's kind. No line gives a parent yet.
-pub record IsCommit (hash : HashKind) (request : CommitRequest) : Type 0 where
-  pub name : IsScriptName request.name
-  pub author : IsIdentity request.author
-  pub committer : IsIdentity request.committer
-  pub ids : AllByRecursion (IsOfKind hash) request.parents
-  pub parents : request.parents ≡ []
-  pub edits : AllByRecursion IsEdit request.edits
-  pub count : length request.edits ≤ edit_limit
-
+-- The fields of a request have their forms: names are well-formed, ids are of the kind, numbers and counts within their limits.
 abbrev pub IsForm : HashKind → Request → Type 0
 IsForm hash (Commit request) = IsCommit hash request
+IsForm hash (Identity who) = IsIdentity who
+IsForm hash (Tag request) = IsTag hash request
+IsForm hash (Ref request) = IsRef hash request
+IsForm hash (Delete name expect) = IsFullName name × IsExpect hash expect
+IsForm hash (Refs prefix) = IsPrefix prefix
+IsForm hash (Log name) = IsFullName name
+IsForm hash (Paths id) = IsId hash id
+IsForm hash (Walk order ids) = IsWalk hash order ids
+IsForm hash (Bases first others) = IsBases hash first others
+IsForm hash (Octopus ids) = IsOctopus hash ids
+IsForm hash (Describe names max id) = IsDescribe hash max id
+IsForm hash (NoteSet request) = IsNote hash request.reference request.object
+IsForm hash (NoteDrop reference object) = IsNote hash reference object
+IsForm hash (NoteGet object patterns) = IsNoteGet hash object patterns
+IsForm hash Head = Unit {0}
+IsForm hash (Namespace name) = IsNamespace name
 
 -- A line and a block have their limits.
 abbrev pub IsShort : Item → Type 0
 IsShort (Line bytes) = length bytes ≤ line_limit
 IsShort (Block bytes) = length bytes ≤ block_limit
 
+-- How many bytes an item adds to the blocks of its request.
 abbrev pub block_size : Item → ℕ
 block_size (Line bytes) = 0
 block_size (Block bytes) = length bytes
@@ -115,6 +81,7 @@ pub record IsMalformed (hash : HashKind) (bytes : List ℕ) : Type 0 where
   pub part : Begins hash bytes → ⊥
   pub whole : (request : Request) (rest : List ℕ) → IsRequest hash request → bytes ≡ spelling request ++ rest → ⊥
 
+-- How many newlines the bytes have.
 abbrev pub newlines_in : List ℕ → ℕ
 newlines_in bytes = count_by (λ b. nat_eq b 10) bytes
 

@@ -5,8 +5,9 @@ use Rattle.gx_script.specs.declared.error.ScriptError.{ScriptError}
 use Rattle.gx_script.specs.declared.error.ScriptError.TheVariants.{Malformed, ReadFault, TooLong, NoMemory}
 use Rattle.gx_store.specs.Faults.{Rose}
 use Rattle.gx_store.specs.Outside.{Takes, IsEnd}
-use Rattle.gx_script.specs.Script.{newlines_in, NoNewline, IsPartialLine, line_limit}
-use Rattle.gx_script.specs.Spelling.{ended}
+use Rattle.gx_script.specs.Script.{newlines_in, IsPartialLine}
+use Rattle.gx_script.specs.Items.{NoNewline, line_limit}
+use Rattle.gx_script.specs.Items.{ended}
 use Rattle.gx_script.specs.Reading.{Reading, Moves, Fails, line_number}
 
 -- Bytes were taken, at most so many.
@@ -24,6 +25,7 @@ pub record TookOnto (most : ℕ) (old new : List ℕ) (left left' : Option (List
   pub added : new ≡ old ++ taken
   pub end : count ≡ 0 → IsEnd left'
 
+-- Bytes were taken and added, or nothing was added.
 abbrev pub ReadOnto : ℕ → List ℕ → List ℕ → Option (List ℕ) → Option (List ℕ) → ℕ → ℕ → Result ℕ ScriptError → Type 0
 ReadOnto most old new left left' faults faults' (Ok count) = TookOnto most old new left left' count
 ReadOnto most old new left left' faults faults' (Err ReadFault) = (new ≡ old) × Takes left left' [] × Rose faults faults'
@@ -31,6 +33,7 @@ ReadOnto most old new left left' faults faults' (Err NoMemory) = (new ≡ old) �
 ReadOnto most old new left left' faults faults' (Err TooLong) = ⊥
 ReadOnto most old new left left' faults faults' (Err (Malformed line)) = ⊥
 
+-- One byte was taken.
 pub record TookOne (left left' : Option (List ℕ)) : Type 0 where
   pub last : ℕ
   pub takes : Takes left left' (last ∷ [])
@@ -58,6 +61,7 @@ pub record BeginsLine (bytes : List ℕ) (count : ℕ) : Type 0 where
   pub open_line : NoNewline line
   pub long : length line ≡ count
 
+-- How long the first line is, where it has ended.
 abbrev pub FoundNewline : List ℕ → Option ℕ → Type 0
 FoundNewline bytes None = NoNewline bytes
 FoundNewline bytes (Some count) = BeginsLine bytes count
@@ -67,6 +71,7 @@ abbrev pub StopsPiece : (List ℕ → Type 0) → (List ℕ → ℕ → Type 0) 
 StopsPiece Ends Stop front [] = Ends front
 StopsPiece Ends Stop front (b ∷ more) = Stop front b
 
+-- A piece of a request goes wrong behind a front that may stand there, which has so many newlines.
 pub record IsBadPiece (Part Ends : List ℕ → Type 0) (Stop : List ℕ → ℕ → Type 0) (bytes : List ℕ) (newlines : ℕ) : Type 0 where
   pub front : List ℕ
   pub more : List ℕ
@@ -75,6 +80,7 @@ pub record IsBadPiece (Part Ends : List ℕ → Type 0) (Stop : List ℕ → ℕ
   pub count : newlines ≡ newlines_in front
   pub stops : StopsPiece Ends Stop front more
 
+-- A piece goes wrong at the line.
 abbrev pub BadPieceAt : (List ℕ → Type 0) → (List ℕ → Type 0) → (List ℕ → ℕ → Type 0) → Reading → ℕ → List ℕ → Type 0
 BadPieceAt Part Ends Stop old line bytes = (newlines : ℕ) × IsBadPiece Part Ends Stop bytes newlines × (line ≡ line_number old newlines)
 
@@ -86,6 +92,7 @@ LineStops Wrong front b = ((b ≡ 10) × Wrong front) ⊎ ((b ≢ 10) × (length
 abbrev pub LineFails : (List ℕ → Type 0) → (List ℕ → Type 0) → Reading → Option (List ℕ) → Option (List ℕ) → ℕ → ℕ → ScriptError → Type 0
 LineFails Ends Wrong old left left' faults faults' e = Fails IsPartialLine (BadPieceAt IsPartialLine Ends (LineStops Wrong) old) old left left' faults faults' e
 
+-- No bytes have the property.
 abbrev pub Nothing : List ℕ → Type 0
 Nothing bytes = ⊥
 
@@ -119,9 +126,11 @@ FoundBlock count old new left left' faults faults' (Ok true) = Moves old new lef
 FoundBlock count old new left left' faults faults' (Ok false) = Moves old new left left' [] × (length new.held ≤ count) × IsEnd left'
 FoundBlock count old new left left' faults faults' (Err e) = Fails (λ bytes. length bytes ≤ count) (λ line bytes. ⊥) old left left' faults faults' e
 
+-- A block goes wrong where no newline stands behind it.
 abbrev pub BlockStops : ℕ → List ℕ → ℕ → Type 0
 BlockStops count front b = (length front ≡ count) × (b ≢ 10)
 
+-- No block was read.
 abbrev pub BlockFails : ℕ → Reading → Option (List ℕ) → Option (List ℕ) → ℕ → ℕ → ScriptError → Type 0
 BlockFails count old left left' faults faults' e = Fails (λ bytes. length bytes ≤ count) (BadPieceAt (λ bytes. length bytes ≤ count) (λ front. IsEnd left') (BlockStops count) old) old left left' faults faults' e
 

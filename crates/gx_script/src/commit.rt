@@ -1,178 +1,113 @@
-ghost use Rattle.gx_script.specs.CommitSteps.{SaysWho, SaysMessage, SaysChange, IsNoChange, ReadsFirst, ReadsHead, ReadsCommit};
-ghost use Rattle.gx_script.specs.Lines.{IsNoWho, IsNoMessageLine};
-ghost use Rattle.gx_script.specs.Script.{edit_limit};
-ghost use Rattle.gx_script.specs.Steps.{ReadsLine};
-ghost use Rattle.std.specs.Prelude.{◌≡◌, ◌<◌, ◌≤◌, MatchOption};
+//! A commit behind its first line.
 
+ghost use Rattle.gx_script.specs.Commits.{edits_items};
+ghost use Rattle.gx_script.specs.Grammar.{ReadsFrom, at_over, at_content, AtParent, AtEdit, AtContent, AtAuthor, parents_items, FitParents, FitEdits, content_of, FitsContent, commit_tail, FitsCommit};
+ghost use Rattle.gx_script.specs.Items.{block_limit};
+ghost use Rattle.gx_script.specs.NextEdit.{found_items, behind_edit, FitsFound};
+ghost use Rattle.std.specs.Prelude.{◌≡◌, ◌≤◌};
+
+use crate::change::Change;
 use crate::feed::Feed;
-use crate::lines::{Change, change_of, commit_name, identity, message_size};
+use crate::lines::{ParentLine, change_line, parent_line, who_line};
 use crate::{CommitRequest, ScriptError};
 use gx_edit::{PathEdit, PathEdits};
 use gx_hash::Bytes;
-use gx_object::{Ids, Signature};
+use gx_object::Ids;
 use gx_rules::FullName;
 use gx_store::Source;
 
-/// What a commit has before its edits.
-#[derive(Drop)]
-struct Head {
-    name: FullName,
-    author: Signature,
-    committer: Signature,
-    message: Bytes,
-}
-
-impl Head {
-    fn with_edits(self, parents: Ids, edits: Vec<PathEdit>) -> CommitRequest
-        ensures { result ≡ record { name = self.name; author = self.author; committer = self.committer; parents = parents; message = self.message; edits = edits.items } }
-    {
-        CommitRequest {
-            name: self.name,
-            author: self.author,
-            committer: self.committer,
-            parents,
-            message: self.message,
-            edits: PathEdits::from_vec(edits),
+/// Reads the parents, and how long the message is.
+fn parents<I: Source>(feed: &mut Feed, input: &mut I) -> Result<(Ids, usize), ScriptError>
+    ensures parents { ReadsFrom (AtParent 0) at_content parents_items (FitParents feed.old.hash) feed.old feed.new (I.left input.old) (I.left input.new) (I.faults input.old) (I.faults input.new) result }
+    ensures later { I.faults input.old ≤ I.faults input.new }
+    ensures kind { feed.new.hash ≡ feed.old.hash }
+{
+    let mut ids = Vec::new(feed.alloc());
+    'parents: loop {
+        match parent_line(feed, ids.len(), input)? {
+            ParentLine::Parent(id) => ids.push(id)?,
+            ParentLine::Message(size) => return Ok((Ids::from_vec(ids), size)),
         }
     }
 }
 
-/// The first line. None where the input ends before it.
-fn commit_line<I: Source>(feed: &mut Feed, input: &mut I) -> Result<Option<FullName>, ScriptError>
-    ensures line { ReadsFirst feed.old feed.new (I.left input.old) (I.left input.new) (I.faults input.old) (I.faults input.new) result }
-    ensures later { I.faults input.old ≤ I.faults input.new }
-    ensures kind { feed.new.hash ≡ feed.old.hash }
-{
-    let Some(size) = feed.find_line(input)? else {
-        if feed.held().is_empty() {
-            return Ok(None);
-        }
-        return Err(feed.malformed());
-    };
-    let Some(name) = commit_name(&feed.held()[..size]) else {
-        return Err(feed.malformed());
-    };
-    let name = FullName::new_unchecked(Bytes::from_slice(feed.alloc(), name)?);
-    feed.give(size + 1);
-    Ok(Some(name))
-}
-
-/// The line of an author or a committer.
-fn identity_line<I: Source>(
+/// Reads an edit behind so many others, with its block. None at the end of the request.
+fn next_edit<I: Source>(
     feed: &mut Feed,
-    word: &[u8],
+    count: usize,
+    room: &mut u64,
     input: &mut I,
-) -> Result<Signature, ScriptError>
-    ensures line { ReadsLine (SaysWho word.now) (IsNoWho word.now) feed.old feed.new (I.left input.old) (I.left input.new) (I.faults input.old) (I.faults input.new) result }
+) -> Result<Option<PathEdit>, ScriptError>
+    ensures edit { ReadsFrom (AtEdit count room.old) (behind_edit count room.new) found_items (FitsFound feed.old.hash count) feed.old feed.new (I.left input.old) (I.left input.new) (I.faults input.old) (I.faults input.new) result }
     ensures later { I.faults input.old ≤ I.faults input.new }
     ensures kind { feed.new.hash ≡ feed.old.hash }
 {
-    let size = feed.line(input)?;
-    let Some(who) = identity(feed.alloc(), word, &feed.held()[..size])? else {
-        return Err(feed.malformed());
-    };
-    feed.give(size + 1);
-    Ok(who)
-}
-
-/// The line that announces the message, and how long that is.
-fn message_line<I: Source>(feed: &mut Feed, input: &mut I) -> Result<usize, ScriptError>
-    ensures line { ReadsLine SaysMessage IsNoMessageLine feed.old feed.new (I.left input.old) (I.left input.new) (I.faults input.old) (I.faults input.new) result }
-    ensures later { I.faults input.old ≤ I.faults input.new }
-    ensures kind { feed.new.hash ≡ feed.old.hash }
-{
-    let size = feed.line(input)?;
-    let Some(count) = message_size(&feed.held()[..size]) else {
-        return Err(feed.malformed());
-    };
-    feed.give(size + 1);
-    Ok(count)
-}
-
-/// All lines before the edits, and the message. None where the input ends before them.
-fn read_head<I: Source>(feed: &mut Feed, input: &mut I) -> Result<Option<Head>, ScriptError>
-    ensures head { ReadsHead feed.old feed.new (I.left input.old) (I.left input.new) (I.faults input.old) (I.faults input.new) result }
-    ensures later { I.faults input.old ≤ I.faults input.new }
-    ensures kind { feed.new.hash ≡ feed.old.hash }
-{
-    let Some(name) = commit_line(feed, input)? else {
-        return Ok(None);
-    };
-    let author = identity_line(feed, b"author ", input)?;
-    let committer = identity_line(feed, b"committer ", input)?;
-    let size = message_line(feed, input)?;
-    let message = feed.block(size, input)?;
-    Ok(Some(Head {
-        name,
-        author,
-        committer,
-        message,
-    }))
-}
-
-/// A line among the edits: the size and the path of a file, or None at the end of the request.
-fn change_line<I: Source>(
-    feed: &mut Feed,
-    room: Option<u64>,
-    input: &mut I,
-) -> Result<Option<(usize, Bytes)>, ScriptError>
-    ensures line { ReadsLine (SaysChange room) (IsNoChange room) feed.old feed.new (I.left input.old) (I.left input.new) (I.faults input.old) (I.faults input.new) result }
-    ensures later { I.faults input.old ≤ I.faults input.new }
-    ensures kind { feed.new.hash ≡ feed.old.hash }
-{
-    let size = feed.line(input)?;
-    match change_of(&feed.held()[..size], room) {
-        Some(Change::End) => {
-            feed.give(size + 1);
-            Ok(None)
+    match change_line(feed, count, *room, input)? {
+        Change::Put(kind, size, path) => {
+            let bytes = feed.block(size, input)?;
+            *room -= size as u64;
+            Ok(Some(kind.edit(path, bytes)))
         }
-        Some(Change::Put(count, path)) => {
-            let path = Bytes::from_slice(feed.alloc(), path)?;
-            feed.give(size + 1);
-            Ok(Some((count, path)))
-        }
-        None => Err(feed.malformed()),
+        Change::Whole(edit) => Ok(Some(edit)),
+        Change::End => Ok(None),
+    }
+}
+
+/// Reads the edits, whose blocks may have so many bytes, and the end of the request.
+fn edits<I: Source>(feed: &mut Feed, most: u64, input: &mut I) -> Result<PathEdits, ScriptError>
+    ensures edits { ReadsFrom (AtEdit 0 most) at_over edits_items (FitEdits feed.old.hash) feed.old feed.new (I.left input.old) (I.left input.new) (I.faults input.old) (I.faults input.new) result }
+    ensures later { I.faults input.old ≤ I.faults input.new }
+    ensures kind { feed.new.hash ≡ feed.old.hash }
+{
+    let mut edits = Vec::new(feed.alloc());
+    let mut room = most;
+    'edits: loop {
+        let Some(edit) = next_edit(feed, edits.len(), &mut room, input)? else {
+            return Ok(PathEdits::from_vec(edits));
+        };
+        edits.push(edit)?;
     }
 }
 
 /// The most bytes that the blocks of a request have together.
 const BLOCKS_LIMIT: u64 = 1073741824;
 
-/// The most edits of a commit.
-const EDIT_LIMIT: usize = 65536;
-
-/// How many bytes more may be put behind so many edits, or that none may.
-fn room_behind(edits: usize, room: u64) -> Option<u64>
-    ensures { MatchOption result (edit_limit ≤ edits) (λ left. (edits < edit_limit) × (left ≡ room)) }
-{
-    if edits < EDIT_LIMIT { Some(room) } else { None }
-}
-
-/// Reads a commit. None where the input ends before it.
-pub fn commit<I: Source>(
+/// Reads a message of so many bytes, the edits, and the end of the request.
+fn content<I: Source>(
     feed: &mut Feed,
+    size: usize,
     input: &mut I,
-) -> Result<Option<CommitRequest>, ScriptError>
-    ensures next { ReadsCommit feed.old feed.new (I.left input.old) (I.left input.new) (I.faults input.old) (I.faults input.new) result }
+) -> Result<(Bytes, PathEdits), ScriptError>
+    requires { size ≤ block_limit }
+    ensures content { ReadsFrom (AtContent size) at_over content_of (FitsContent feed.old.hash size) feed.old feed.new (I.left input.old) (I.left input.new) (I.faults input.old) (I.faults input.new) result }
     ensures later { I.faults input.old ≤ I.faults input.new }
     ensures kind { feed.new.hash ≡ feed.old.hash }
 {
-    let Some(head) = read_head(feed, input)? else {
-        return Ok(None);
-    };
-    let mut room = BLOCKS_LIMIT - head.message.as_slice().len() as u64;
-    let mut edits = Vec::new(feed.alloc());
-    'edits: loop {
-        let room_here = room_behind(edits.len(), room);
-        let Some((size, path)) = change_line(feed, room_here, input)? else {
-            return Ok(Some(head.with_edits(Ids::new(feed.alloc()), edits)));
-        };
-        let bytes = feed.block(size, input)?;
-        room -= size as u64;
-        edits.push(PathEdit::File {
-            path,
-            bytes,
-            executable: false,
-        })?;
-    }
+    let message = feed.block(size, input)?;
+    let edits = edits(feed, BLOCKS_LIMIT - size as u64, input)?;
+    Ok((message, edits))
+}
+
+/// Reads a commit on the reference of this name.
+pub fn commit<I: Source>(
+    feed: &mut Feed,
+    name: FullName,
+    input: &mut I,
+) -> Result<CommitRequest, ScriptError>
+    ensures commit { ReadsFrom AtAuthor at_over commit_tail (FitsCommit feed.old.hash name) feed.old feed.new (I.left input.old) (I.left input.new) (I.faults input.old) (I.faults input.new) result }
+    ensures later { I.faults input.old ≤ I.faults input.new }
+    ensures kind { feed.new.hash ≡ feed.old.hash }
+{
+    let author = who_line(feed, b"author ", input)?;
+    let committer = who_line(feed, b"committer ", input)?;
+    let (parents, size) = parents(feed, input)?;
+    let (message, edits) = content(feed, size, input)?;
+    Ok(CommitRequest {
+        name,
+        author,
+        committer,
+        parents,
+        message,
+        edits,
+    })
 }

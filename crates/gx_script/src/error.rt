@@ -12,10 +12,13 @@ pub enum ScriptError {
     /// The bytes are no script from this line on. Lines are counted from 1.
     #[error("line {line} is malformed")]
     Malformed { line: u64 },
+    /// The source failed.
     #[error("a read failed")]
     ReadFault,
+    /// The source has a byte past the limit, and those before may still become requests.
     #[error("the script is too long")]
     TooLong,
+    /// Memory for what was read is missing.
     #[error("out of memory")]
     NoMemory,
 }

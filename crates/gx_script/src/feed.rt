@@ -1,6 +1,8 @@
 ghost use Rattle.gx_script.specs.Reading.{Reading, line_number};
-ghost use Rattle.gx_script.specs.Script.{newlines_in, block_limit};
+ghost use Rattle.gx_script.specs.Script.{newlines_in};
+ghost use Rattle.gx_script.specs.Items.{block_limit};
 ghost use Rattle.gx_script.specs.Steps.{ReadOne, ReadOnto, Filled, FoundNewline, FoundLine, HasLine, FoundBlock, ReadsBlock, CutsLarge, given};
+ghost use Rattle.std.specs.declared.alloc.Global.{Global};
 ghost use Rattle.std.specs.Prelude.{◌≡◌, ◌+◌, ◌≤◌, ◌<◌, [], length, take, drop, vec_len, MatchResult, None, Some};
 
 use crate::ScriptError;
@@ -117,6 +119,7 @@ fn cut_large(
 }
 
 impl Feed {
+    /// Nothing is held yet, and at most `limit` bytes will be taken.
     pub fn new(alloc: Global, hash: HashKind, limit: u64) -> Feed
         ensures { result ≡ record { hash = hash; held = []; room = limit; newlines = 0; failed = None } }
     {
@@ -131,16 +134,28 @@ impl Feed {
         }
     }
 
-    pub fn alloc(&self) -> Global {
+    /// The allocator. All are equal.
+    pub fn alloc(&self) -> Global
+        ensures { (other : Global) → result ≡ other }
+    {
         self.alloc
     }
 
+    /// The kind of ids in the script.
+    pub fn hash(&self) -> HashKind
+        ensures { result ≡ self.now.hash }
+    {
+        self.hash
+    }
+
+    /// Why nothing more is given.
     pub fn failed(&self) -> Option<ScriptError>
         ensures { result ≡ self.now.failed }
     {
         self.failed
     }
 
+    /// Keeps why nothing more is given.
     pub fn fail(&mut self, error: ScriptError)
         ensures { self.new ≡ record self.old { failed = Some error } }
     {

@@ -5,16 +5,28 @@
 //! limit, and only to answer that the script is too long.
 #![tactic(auto)]
 
+mod change;
 mod commit;
 mod error;
 mod feed;
+mod fields;
+mod history_forms;
 pub mod laws;
 mod lines;
+mod lists;
+mod message;
+mod note_forms;
 mod number;
+mod opening;
 mod reader;
+mod reference_forms;
 mod request;
+mod spaced;
 mod split;
 
 pub use error::ScriptError;
+pub use lists::{Patterns, WalkId, WalkIds};
 pub use reader::ScriptReader;
-pub use request::{CommitRequest, Request};
+pub use request::{
+    CommitRequest, Expect, NameSet, NoteRequest, Order, RefRequest, Request, TagRequest,
+};

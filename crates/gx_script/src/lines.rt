@@ -1,143 +1,199 @@
-ghost use Rattle.gx_script.specs.Lines.{IsNoCommitLine, IsNoWho, IsNoSize, IsNoMessageLine, signature_of, IsRoom, IsNoPut, Says};
-ghost use Rattle.gx_script.specs.Script.{Without, IsScriptName, IsIdentity, NoNewline, block_limit};
-ghost use Rattle.gx_script.specs.Spelling.{commit_line, who_text, message_line, put_line, end_line};
-ghost use Rattle.std.specs.Fmt.{decimal};
-ghost use Rattle.std.specs.Prelude.{◌≡◌, ◌≢◌, ◌≤◌, ◌++◌, [], IfOk, MatchOption, MatchBool};
+//! The lines of requests behind their first.
 
-use crate::number::{number, signed, signed_32};
-use crate::split::{after, is_without, split_once};
-use gx_hash::{Bytes, NoMemory};
-use gx_object::{Signature, Time};
+ghost use Rattle.gx_script.specs.Grammar.{SaysOpening, SaysWho, SaysMessage, SaysPerson, SaysParent, SaysChange, IsNo, ReadsSaid, ReadsFirst};
+ghost use Rattle.gx_script.specs.Fields.{end_line};
+ghost use Rattle.gx_script.specs.Steps.{ReadsLine};
+ghost use Rattle.gx_script.specs.Items.{NoNewline, block_limit};
+ghost use Rattle.std.specs.Prelude.{◌≡◌, ◌≢◌, ◌≤◌, IfOk, MatchOption};
+
+use crate::ScriptError;
+use crate::change::{Change, is_end, read_change};
+use crate::feed::Feed;
+use crate::fields::{block_size, identity, object_id};
+use crate::opening::{Opening, read_opening};
+use crate::split::after;
+use gx_hash::{HashKind, NoMemory, ObjectId};
+use gx_object::Signature;
+use gx_store::Source;
 use std::alloc::Global;
 
-/// Whether the name is `HEAD`, or a branch whose short name is one or more ASCII letters.
-fn is_script_name(name: &[u8]) -> bool
-    ensures { MatchBool result (IsScriptName name.now) (IsScriptName name.now → ⊥) }
-{
-    match after(name, b"refs/heads/") {
-        Some(letters) => !letters.is_empty() && letters.iter().all(|b| b.is_ascii_alphabetic()),
-        None => matches!(name, b"HEAD"),
-    }
+/// A line of the parents of a commit, or the one behind them.
+#[derive(Drop)]
+pub enum ParentLine {
+    Parent(ObjectId),
+    /// The message follows, which has this size.
+    Message(usize),
 }
 
-/// The name in the first line of a commit.
-pub fn commit_name(line: &[u8]) -> Option<&[u8]>
-    ensures { MatchOption result (IsNoCommitLine line.now) (λ name. IsScriptName name.now × (line.now ≡ commit_line name.now)) }
-{
-    let name = after(line, b"commit ")?;
-    if is_script_name(name) {
-        Some(name)
-    } else {
-        None
-    }
-}
-
-/// An identity as a line spells it.
-#[derive(Clone, Copy)]
-struct Who<'a> {
-    time: Time,
-    name: &'a [u8],
-    email: &'a [u8],
-}
-
-/// The moment and the identity that the bytes spell.
-fn parse_who(bytes: &[u8]) -> Option<Who<'_>>
-    requires { NoNewline bytes.now }
-    ensures { MatchOption result (IsNoWho [] bytes.now) (λ who. IsIdentity (signature_of who.time who.name.now who.email.now) × (bytes.now ≡ who_text (signature_of who.time who.name.now who.email.now))) }
-{
-    let (seconds, rest) = split_once(bytes, b' ')?;
-    let (offset, rest) = split_once(rest, b' ')?;
-    let (name, email) = split_once(rest, b'\t')?;
-    if !is_without(email, b'\t') {
-        return None;
-    }
-    let time = Time {
-        seconds: signed(seconds)?,
-        offset: signed_32(offset)?,
-    };
-    Some(Who { time, name, email })
-}
-
-/// The identity in a line that begins with the word.
-pub fn identity(alloc: Global, word: &[u8], line: &[u8]) -> Result<Option<Signature>, NoMemory>
-    requires { NoNewline line.now }
-    ensures { IfOk result (λ found. MatchOption found (IsNoWho word.now line.now) (λ who. IsIdentity who × (line.now ≡ word.now ++ who_text who))) }
-{
-    let Some(rest) = after(line, word) else {
-        return Ok(None);
-    };
-    let Some(who) = parse_who(rest) else {
-        return Ok(None);
-    };
-    Ok(Some(Signature {
-        name: Bytes::from_slice(alloc, who.name)?,
-        email: Bytes::from_slice(alloc, who.email)?,
-        time: who.time,
-    }))
-}
-
-/// The most bytes of a block.
-const BLOCK_LIMIT: u64 = 268435456;
-
-/// The length of a block that the bytes spell.
-fn block_size(bytes: &[u8]) -> Option<usize>
-    ensures { MatchOption result (IsNoSize bytes.now) (λ size. (size ≤ block_limit) × (bytes.now ≡ decimal size)) }
-{
-    let size = number(bytes)?;
-    if size <= BLOCK_LIMIT {
-        Some(size as usize)
-    } else {
-        None
-    }
+/// The line of a person who may be left out, or the one behind it.
+#[derive(Drop)]
+pub enum PersonLine {
+    Who(Signature),
+    /// The message follows, which has this size.
+    Message(usize),
 }
 
 /// How many bytes the message has that the line announces.
-pub fn message_size(line: &[u8]) -> Option<usize>
-    ensures { MatchOption result (IsNoMessageLine line.now) (λ size. (size ≤ block_limit) × (line.now ≡ message_line size)) }
+fn message_size(line: &[u8]) -> Option<usize>
+    ensures { MatchOption result (IsNo SaysMessage line.now) (λ size. SaysMessage size line.now) }
 {
     block_size(after(line, b"message ")?)
 }
 
-/// A line among the edits of a commit.
-#[derive(Clone, Copy)]
-pub enum Change<'a> {
-    /// Puts a file at the path. A block of this size follows.
-    Put(usize, &'a [u8]),
-    End,
+/// The most parents of a commit.
+const PARENT_LIMIT: usize = 1024;
+
+/// The id in the line of a parent.
+fn parent_id(hash: HashKind, count: usize, line: &[u8]) -> Option<ObjectId>
+    ensures { MatchOption result ((id : ObjectId) → SaysParent hash count (ParentLine.Parent id) line.now → ⊥) (λ id. SaysParent hash count (ParentLine.Parent id) line.now) }
+{
+    if count >= PARENT_LIMIT {
+        return None;
+    }
+    object_id(hash, after(line, b"parent ")?)
 }
 
-/// Whether so many bytes may be put.
-fn has_room(room: Option<u64>, size: usize) -> bool
-    ensures { MatchBool result (IsRoom room size) (IsRoom room size → ⊥) }
+/// What a line behind so many parents says.
+fn parent(hash: HashKind, count: usize, line: &[u8]) -> Option<ParentLine>
+    ensures { MatchOption result (IsNo (SaysParent hash count) line.now) (λ next. SaysParent hash count next line.now) }
 {
-    match room {
-        Some(room) => size as u64 <= room,
-        None => false,
+    match parent_id(hash, count, line) {
+        Some(id) => Some(ParentLine::Parent(id)),
+        None => Some(ParentLine::Message(message_size(line)?)),
     }
 }
 
-/// The size and the path in a line that puts a file of at most so many bytes. None are put where there is no room.
-fn put(line: &[u8], room: Option<u64>) -> Option<(usize, &[u8])>
-    ensures { MatchOption result (IsNoPut room line.now) (λ put. (put.0 ≤ block_limit) × IsRoom room put.0 × (line.now ≡ put_line put.0 put.1.now)) }
+/// The person in a line that begins with the word, or the length of the message.
+fn person(alloc: Global, word: &[u8], line: &[u8]) -> Result<Option<PersonLine>, NoMemory>
+    requires { NoNewline line.now }
+    ensures { IfOk result (λ found. MatchOption found (IsNo (SaysPerson word.now) line.now) (λ next. SaysPerson word.now next line.now)) }
 {
-    let (size, path) = split_once(after(line, b"put file ")?, b' ')?;
-    let size = block_size(size)?;
-    if has_room(room, size) {
-        Some((size, path))
-    } else {
-        None
+    if let Some(who) = identity(alloc, word, line)? {
+        return Ok(Some(PersonLine::Who(who)));
+    }
+    match message_size(line) {
+        Some(size) => Ok(Some(PersonLine::Message(size))),
+        None => Ok(None),
     }
 }
 
-/// What a line among the edits says, where files of so many bytes may be put, or none.
-pub fn change_of(line: &[u8], room: Option<u64>) -> Option<Change<'_>>
-    ensures { MatchOption result (IsNoPut room line.now × (line.now ≢ end_line)) (Says room line.now) }
+/// Reads the first line of a request. None where the input ends before it.
+pub fn first_line<I: Source>(feed: &mut Feed, input: &mut I) -> Result<Option<Opening>, ScriptError>
+    ensures line { ReadsFirst feed.old feed.new (I.left input.old) (I.left input.new) (I.faults input.old) (I.faults input.new) result }
+    ensures later { I.faults input.old ≤ I.faults input.new }
+    ensures kind { feed.new.hash ≡ feed.old.hash }
 {
-    match line {
-        b"end" => Some(Change::End),
-        _ => {
-            let (size, path) = put(line, room)?;
-            Some(Change::Put(size, path))
+    let Some(size) = feed.find_line(input)? else {
+        if feed.held().is_empty() {
+            return Ok(None);
         }
+        return Err(feed.malformed());
+    };
+    let Some(opening) = read_opening(feed.alloc(), feed.hash(), &feed.held()[..size])? else {
+        return Err(feed.malformed());
+    };
+    feed.give(size + 1);
+    Ok(Some(opening))
+}
+
+/// Reads the line of an author or a committer.
+pub fn who_line<I: Source>(
+    feed: &mut Feed,
+    word: &[u8],
+    input: &mut I,
+) -> Result<Signature, ScriptError>
+    ensures line { ReadsSaid (SaysWho word.now) feed.old feed.new (I.left input.old) (I.left input.new) (I.faults input.old) (I.faults input.new) result }
+    ensures later { I.faults input.old ≤ I.faults input.new }
+    ensures kind { feed.new.hash ≡ feed.old.hash }
+{
+    let size = feed.line(input)?;
+    let Some(who) = identity(feed.alloc(), word, &feed.held()[..size])? else {
+        return Err(feed.malformed());
+    };
+    feed.give(size + 1);
+    Ok(who)
+}
+
+/// Reads a line behind so many parents.
+pub fn parent_line<I: Source>(
+    feed: &mut Feed,
+    count: usize,
+    input: &mut I,
+) -> Result<ParentLine, ScriptError>
+    ensures line { ReadsSaid (SaysParent feed.old.hash count) feed.old feed.new (I.left input.old) (I.left input.new) (I.faults input.old) (I.faults input.new) result }
+    ensures later { I.faults input.old ≤ I.faults input.new }
+    ensures kind { feed.new.hash ≡ feed.old.hash }
+{
+    let size = feed.line(input)?;
+    let Some(next) = parent(feed.hash(), count, &feed.held()[..size]) else {
+        return Err(feed.malformed());
+    };
+    feed.give(size + 1);
+    Ok(next)
+}
+
+/// Reads the line of a person who may be left out, or the one behind it.
+pub fn person_line<I: Source>(
+    feed: &mut Feed,
+    word: &[u8],
+    input: &mut I,
+) -> Result<PersonLine, ScriptError>
+    ensures line { ReadsSaid (SaysPerson word.now) feed.old feed.new (I.left input.old) (I.left input.new) (I.faults input.old) (I.faults input.new) result }
+    ensures later { I.faults input.old ≤ I.faults input.new }
+    ensures kind { feed.new.hash ≡ feed.old.hash }
+{
+    let size = feed.line(input)?;
+    let Some(next) = person(feed.alloc(), word, &feed.held()[..size])? else {
+        return Err(feed.malformed());
+    };
+    feed.give(size + 1);
+    Ok(next)
+}
+
+/// Reads the line that announces a message, and answers how long that is.
+pub fn message_line<I: Source>(feed: &mut Feed, input: &mut I) -> Result<usize, ScriptError>
+    ensures line { ReadsSaid SaysMessage feed.old feed.new (I.left input.old) (I.left input.new) (I.faults input.old) (I.faults input.new) result }
+    ensures later { I.faults input.old ≤ I.faults input.new }
+    ensures kind { feed.new.hash ≡ feed.old.hash }
+{
+    let size = feed.line(input)?;
+    let Some(count) = message_size(&feed.held()[..size]) else {
+        return Err(feed.malformed());
+    };
+    feed.give(size + 1);
+    Ok(count)
+}
+
+/// Reads a line behind so many edits, where a block may have so many bytes.
+pub fn change_line<I: Source>(
+    feed: &mut Feed,
+    count: usize,
+    room: u64,
+    input: &mut I,
+) -> Result<Change, ScriptError>
+    ensures line { ReadsSaid (SaysChange feed.old.hash count room) feed.old feed.new (I.left input.old) (I.left input.new) (I.faults input.old) (I.faults input.new) result }
+    ensures later { I.faults input.old ≤ I.faults input.new }
+    ensures kind { feed.new.hash ≡ feed.old.hash }
+{
+    let size = feed.line(input)?;
+    let line = &feed.held()[..size];
+    let Some(next) = read_change(feed.alloc(), feed.hash(), count, room, line)? else {
+        return Err(feed.malformed());
+    };
+    feed.give(size + 1);
+    Ok(next)
+}
+
+/// Reads the last line of a request.
+pub fn end_line<I: Source>(feed: &mut Feed, input: &mut I) -> Result<(), ScriptError>
+    ensures line { ReadsLine (λ _ line. line ≡ end_line) (λ line. line ≢ end_line) feed.old feed.new (I.left input.old) (I.left input.new) (I.faults input.old) (I.faults input.new) result }
+    ensures later { I.faults input.old ≤ I.faults input.new }
+    ensures kind { feed.new.hash ≡ feed.old.hash }
+{
+    let size = feed.line(input)?;
+    if !is_end(&feed.held()[..size]) {
+        return Err(feed.malformed());
     }
+    feed.give(size + 1);
+    Ok(())
 }

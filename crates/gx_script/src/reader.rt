@@ -1,9 +1,13 @@
+ghost use Rattle.gx_script.specs.Grammar.{IsOpening, ReadsBehind};
 ghost use Rattle.gx_script.specs.Reading.{Next};
 ghost use Rattle.std.specs.Prelude.{◌≡◌, ◌≤◌, [], IfOk, IfErr, None, Some};
 
 use crate::commit::commit;
 use crate::feed::Feed;
-use crate::{Request, ScriptError};
+use crate::lines::first_line;
+use crate::message::described;
+use crate::opening::Opening;
+use crate::{NoteRequest, RefRequest, Request, ScriptError, TagRequest};
 use gx_hash::{HashKind, NoMemory};
 use gx_store::Source;
 use std::alloc::Global;
@@ -23,6 +27,47 @@ impl Model for ScriptReader {
     ghost view = { λ reader. reader.feed };
 }
 
+/// Reads what stands behind the first line of a request.
+fn rest<I: Source>(feed: &mut Feed, opening: Opening, input: &mut I) -> Result<Request, ScriptError>
+    requires { IsOpening feed.old.hash opening }
+    ensures rest { ReadsBehind opening feed.old feed.new (I.left input.old) (I.left input.new) (I.faults input.old) (I.faults input.new) result }
+    ensures later { I.faults input.old ≤ I.faults input.new }
+    ensures kind { feed.new.hash ≡ feed.old.hash }
+{
+    match opening {
+        Opening::OneLine(request) => Ok(request),
+        Opening::Commit(name) => Ok(Request::Commit(commit(feed, name, input)?)),
+        Opening::Tag(name, target, kind) => {
+            let (tagger, message) = described(feed, b"tagger ", input)?;
+            Ok(Request::Tag(TagRequest {
+                name,
+                target,
+                kind,
+                tagger,
+                message,
+            }))
+        }
+        Opening::Ref(name, target, expect) => {
+            let (committer, message) = described(feed, b"committer ", input)?;
+            Ok(Request::Ref(RefRequest {
+                name,
+                target,
+                expect,
+                committer,
+                message,
+            }))
+        }
+        Opening::NoteSet(reference, object, size) => {
+            let note = feed.block(size, input)?;
+            Ok(Request::NoteSet(NoteRequest {
+                reference,
+                object,
+                note,
+            }))
+        }
+    }
+}
+
 impl ScriptReader {
     /// A reader of a script with ids of the kind, and with at most `limit` bytes.
     pub fn new(alloc: Global, hash: HashKind, limit: u64) -> Result<ScriptReader, NoMemory>
@@ -39,10 +84,11 @@ impl ScriptReader {
         ensures later { I.faults input.old ≤ I.faults input.new }
         ensures kind { self.new.hash ≡ self.old.hash }
     {
-        match commit(&mut self.feed, input)? {
-            Some(request) => Ok(Some(Request::Commit(request))),
-            None => Ok(None),
-        }
+        let Some(opening) = first_line(&mut self.feed, input)? else {
+            return Ok(None);
+        };
+        let request = rest(&mut self.feed, opening, input)?;
+        Ok(Some(request))
     }
 
     /// The next request, or None at the end of the script. After an `Err` each call answers the same and takes nothing.

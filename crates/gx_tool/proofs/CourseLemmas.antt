@@ -14,16 +14,21 @@ use Rattle.gx_store.specs.State.{StoreState}
 use Rattle.gx_store.specs.Faults.{Rose}
 use Rattle.gx_store.specs.Outside.{Takes, IsEnd, Writes}
 use Rattle.gx_script.specs.declared.request.Request.{Request}
-use Rattle.gx_script.specs.declared.request.Request.TheVariants.{Commit}
-use Rattle.gx_script.specs.Spelling.{spelling, ended, commit_line}
+use Rattle.gx_script.specs.declared.request.Request.TheVariants.{Commit, Identity, Tag, Ref, Delete, Refs, Log, Paths, Walk, Bases, Octopus, Describe, NoteSet, NoteDrop, NoteGet, Head, Namespace}
+use Rattle.gx_script.specs.Items.{Item, Line, Block, items_text}
+use Rattle.gx_script.specs.Spelling.{items_of, spelling}
 use Rattle.gx_script.specs.Script.{IsRequest, Begins, IsBad}
 use Rattle.gx_script.specs.Reading.{Reading, Moves, Stays, Overruns, BadAt, Anything}
+use Rattle.gix.specs.declared.settings.Settings.{Settings}
+use Rattle.gix.specs.Machine.{WhereTold}
+use Rattle.gx_tool.specs.Machine.{Run, IsReply}
 use Rattle.gx_tool.specs.Serving.{Serves, ServesAll, Stops}
 use Rattle.gx_tool.specs.Reply.{texts, reply_text, all_accepted, is_accepted}
 use Rattle.gx_tool.specs.declared.execute.ExecuteError.{ExecuteError}
 use Rattle.gx_tool.specs.declared.execute.ExecuteError.TheVariants as no_reply
 use Rattle.gx_store.specs.declared.error.What.{What}
 use Rattle.gx_tool.specs.Course.{Moment, Course, Ends, Served, taken_count, GotNoReply, WritesFront}
+use Rattle.gx_tool.proofs.MachineLemmas.{runs_none, runs_on}
 use Rattle.gx_tool.proofs.OutsideLemmas.{takes_none, takes_then, writes_none, writes_then, rose_before}
 
 -- the run so far, at the start of a turn
@@ -32,17 +37,24 @@ pub record SoFar (limit : ℕ) (start now : Moment) (reading : Reading) (accepte
   pub replies : List Reply
   pub course : Course start now requests replies reading.held (texts replies) now.store
   pub room : taken_count requests reading.held + reading.room ≡ limit
+  pub machine : WhereTold (λ o n. Run start.settings o requests replies n) start.store now.store
   pub all : all_accepted replies ≡ accepted
+  pub settings : now.settings ≡ start.settings
   pub fine : reading.failed ≡ None
   pub kind : reading.hash ≡ start.store.hash
   pub source_later : start.source_faults ≤ now.source_faults
   pub sink_later : start.sink_faults ≤ now.sink_faults
 
-run_more : (old mid new : StoreState) (requests : List Request) (replies : List Reply) (request : Request) (reply : Reply) → ServesAll old requests replies mid → Serves mid request reply new → ServesAll old (requests ++ request ∷ []) (replies ++ reply ∷ []) new
-run_more old mid new [] [] request reply h s = (new, subst (λ o. Serves o request reply new) h s, refl)
-run_more old mid new [] (r ∷ rs) request reply h s = absurd h
-run_more old mid new (q ∷ qs) [] request reply h s = absurd h
-run_more old mid new (q ∷ qs) (r ∷ rs) request reply h s = (h.0, h.1, run_more h.0 mid new qs rs request reply h.2 s)
+run_more : (settings : Settings) (old mid new : StoreState) (requests : List Request) (replies : List Reply) (request : Request) (reply : Reply) → ServesAll settings old requests replies mid → Serves settings mid request reply new → ServesAll settings old (requests ++ request ∷ []) (replies ++ reply ∷ []) new
+unfolding ServesAll
+run_more settings old mid new [] [] request reply h s = (new, subst (λ o. Serves settings o request reply new) h s, refl)
+run_more settings old mid new [] (r ∷ rs) request reply h s = absurd h
+run_more settings old mid new (q ∷ qs) [] request reply h s = absurd h
+run_more settings old mid new (q ∷ qs) (r ∷ rs) request reply h s = (h.0, h.1, run_more settings h.0 mid new qs rs request reply h.2 s)
+
+run_none : (settings : Settings) (store : StoreState) → ServesAll settings store [] [] store
+unfolding ServesAll
+run_none settings store = refl
 
 each_more : (hash : HashKind) (requests : List Request) (request : Request) → AllByRecursion (IsRequest hash) requests → IsRequest hash request → AllByRecursion (IsRequest hash) (requests ++ request ∷ [])
 each_more hash [] request h r = (r, tt)
@@ -71,10 +83,11 @@ split_more done held taken text held' e = append_assoc done held taken ∙ ap (�
 
 pub so_far_more : (limit : ℕ) (start now next : Moment) (old new : Reading) (accepted : Bool) (block : Request) (reply : Reply)
     → SoFar limit start now old accepted → IsRequest old.hash block → Moves old new now.left next.left (spelling block)
-    → Serves now.store block reply next.store → Writes now.written next.written (reply_text reply)
-    → now.source_faults ≤ next.source_faults → now.sink_faults ≤ next.sink_faults
+    → IsReply now.settings now.store block reply next.store → Writes now.written next.written (reply_text reply)
+    → next.settings ≡ now.settings → now.source_faults ≤ next.source_faults → now.sink_faults ≤ next.sink_faults
     → SoFar limit start next new (accepted && is_accepted reply)
-so_far_more limit start now next old new accepted block reply s fits m step w source sink =
+so_far_more limit start now next old new accepted block reply s fits m step w settings source sink =
+    let h : IsReply start.settings now.store block reply next.store = subst (λ x. IsReply x now.store block reply next.store) s.settings step in
     let whole : flat_map spelling (s.requests ++ block ∷ []) ++ new.held ≡ (flat_map spelling s.requests ++ old.held) ++ m.taken =
     ap (λ l. l ++ new.held) (spellings_more s.requests block) ∙ sym (split_more (flat_map spelling s.requests) old.held m.taken (spelling block) new.held m.split) in
     record {
@@ -83,10 +96,12 @@ so_far_more limit start now next old new accepted block reply s fits m step w so
       course = record {
         takes = subst (Takes start.left next.left) (sym whole) (takes_then start.left now.left next.left (flat_map spelling s.requests ++ old.held) m.taken s.course.takes m.takes);
         each = each_more start.store.hash s.requests block s.course.each (fits_store limit start now old accepted block s fits);
-        run = run_more start.store now.store next.store s.requests s.replies block reply s.course.run step;
+        run = run_more start.settings start.store now.store next.store s.requests s.replies block reply s.course.run h.served;
         writes = subst (Writes start.written next.written) (sym (texts_more s.replies reply)) (writes_then start.written now.written next.written (texts s.replies) (reply_text reply) s.course.writes w);
       };
       room = omega (arith, ap length whole ∙ length-append (flat_map spelling s.requests ++ old.held) m.taken, m.room, s.room);
+      machine = runs_on start.settings s.requests s.replies block reply start.store now.store next.store s.machine h.step;
+      settings = settings ∙ s.settings;
       all = accepted_more s.replies reply ∙ ap (λ b. b && is_accepted reply) s.all;
       fine = m.failed ∙ s.fine;
       kind = m.hash ∙ s.kind;
@@ -98,9 +113,11 @@ pub so_far_first : (limit : ℕ) (m : Moment) → SoFar limit m m (record { hash
 so_far_first limit m = record {
   requests = [];
   replies = [];
-  course = record { takes = takes_none m.left; each = tt; run = refl; writes = writes_none m.written };
+  course = record { takes = takes_none m.left; each = tt; run = run_none m.settings m.store; writes = writes_none m.written };
   room = omega arith;
+  machine = runs_none m.settings m.store;
   all = refl;
+  settings = refl;
   fine = refl;
   kind = refl;
   source_later = omega arith;
@@ -133,6 +150,7 @@ at_end limit start now next old new accepted status s m none end written store e
       rest = rest;
       out = texts s.replies;
       store = now.store;
+      machine = s.machine;
       course = course_taken start now next s.requests s.replies old.held m.taken (texts s.replies) now.store s.course m.takes written;
       ends = ends s.replies rest (texts s.replies) s.requests (omega (arith, count_taken s.requests old.held m.taken, s.room, m.room)) (m.split ∙ none) refl s.all;
     }
@@ -162,6 +180,7 @@ stays_within limit start now next old accepted status P s m written ends =
       rest = old.held ++ m.taken;
       out = texts s.replies;
       store = now.store;
+      machine = s.machine;
       course = course_taken start now next s.requests s.replies old.held m.taken (texts s.replies) now.store s.course m.takes written;
       ends = ends s.replies (old.held ++ m.taken) (texts s.replies) s.requests (omega (arith, count_taken s.requests old.held m.taken, s.room, m.room)) m.part refl;
     }
@@ -194,15 +213,16 @@ ends_too_long limit start now next old accepted s m written store =
       rest = old.held ++ (m.taken ++ m.last ∷ []);
       out = texts s.replies;
       store = now.store;
+      machine = s.machine;
       course = course_taken start now next s.requests s.replies old.held (m.taken ++ m.last ∷ []) (texts s.replies) now.store s.course m.takes written;
       ends = (omega (arith, count_taken s.requests old.held (m.taken ++ m.last ∷ []), length-append m.taken (m.last ∷ []), s.room, m.room), record { within = old.held ++ m.taken; last = m.last; is = sym (append_assoc old.held m.taken (m.last ∷ [])); begins = subst (λ (h : HashKind). Begins h (old.held ++ m.taken)) s.kind m.part }, refl, store);
     }
 
 -- a whole request was read, and got no reply
 read_one : (limit : ℕ) (start now next : Moment) (old new : Reading) (accepted : Bool) (block : Request) (error : ExecuteError) (status : Status)
-    → SoFar limit start now old accepted → IsRequest old.hash block → Moves old new now.left next.left (spelling block) → Stops now.store block next.store error
+    → SoFar limit start now old accepted → IsRequest old.hash block → Moves old new now.left next.left (spelling block) → Stops now.settings now.store block next.store error
     → next.written ≡ now.written
-    → ((replies : List Reply) (rest out : List ℕ) (requests : List Request) → taken_count requests rest ≤ limit → GotNoReply start.store.hash now.store rest error next.store → out ≡ texts replies → Ends limit start next requests replies rest out now.store status)
+    → ((replies : List Reply) (rest out : List ℕ) (requests : List Request) → taken_count requests rest ≤ limit → GotNoReply start.settings start.store.hash now.store rest error next.store → out ≡ texts replies → Ends limit start next requests replies rest out now.store status)
     → Served limit start next status
 read_one limit start now next old new accepted block error status s fits m fails written ends =
     record {
@@ -211,20 +231,21 @@ read_one limit start now next old new accepted block error status s fits m fails
       rest = old.held ++ m.taken;
       out = texts s.replies;
       store = now.store;
+      machine = s.machine;
       course = course_taken start now next s.requests s.replies old.held m.taken (texts s.replies) now.store s.course m.takes written;
-      ends = ends s.replies (old.held ++ m.taken) (texts s.replies) s.requests (omega (arith, count_taken s.requests old.held m.taken, s.room, m.room)) (record { request = block; more = new.held; fits = fits_store limit start now old accepted block s fits; is = m.split; fails = fails }) refl;
+      ends = ends s.replies (old.held ++ m.taken) (texts s.replies) s.requests (omega (arith, count_taken s.requests old.held m.taken, s.room, m.room)) (record { request = block; more = new.held; fits = fits_store limit start now old accepted block s fits; is = m.split; fails = subst (λ x. Stops x now.store block next.store error) s.settings fails }) refl;
     }
 
 pub ends_store : (limit : ℕ) (start now next : Moment) (old new : Reading) (accepted : Bool) (block : Request) (fault : What)
     → SoFar limit start now old accepted → IsRequest old.hash block → Moves old new now.left next.left (spelling block)
-    → Stops now.store block next.store (no_reply.Store fault)
+    → Stops now.settings now.store block next.store (no_reply.Store fault)
     → next.written ≡ now.written → Served limit start next StoreFault
 ends_store limit start now next old new accepted block fault s fits m fails written =
     read_one limit start now next old new accepted block (no_reply.Store fault) StoreFault s fits m fails written (λ replies rest out requests few none all. (few, all, (fault, none)))
 
 pub ends_store_memory : (limit : ℕ) (start now next : Moment) (old new : Reading) (accepted : Bool) (block : Request)
     → SoFar limit start now old accepted → IsRequest old.hash block → Moves old new now.left next.left (spelling block)
-    → Stops now.store block next.store no_reply.NoMemory
+    → Stops now.settings now.store block next.store no_reply.NoMemory
     → next.written ≡ now.written → Served limit start next NoMemory
 ends_store_memory limit start now next old new accepted block s fits m fails written =
     read_one limit start now next old new accepted block no_reply.NoMemory NoMemory s fits m fails written (λ replies rest out requests few none all. (few, inl (all, inr none)))
@@ -232,10 +253,11 @@ ends_store_memory limit start now next old new accepted block s fits m fails wri
 -- the request was run, and a front of its reply was written
 wrote_front : (limit : ℕ) (start now next : Moment) (old new : Reading) (accepted : Bool) (block : Request) (reply : Reply) (status : Status)
     → SoFar limit start now old accepted → IsRequest old.hash block → Moves old new now.left next.left (spelling block)
-    → Serves now.store block reply next.store → (w : WritesFront now.written next.written (reply_text reply))
+    → IsReply now.settings now.store block reply next.store → (w : WritesFront now.written next.written (reply_text reply))
     → ((requests : List Request) (before : List Reply) → taken_count requests new.held ≤ limit → Ends limit start next requests (before ++ reply ∷ []) new.held (texts before ++ w.part) next.store status)
     → Served limit start next status
 wrote_front limit start now next old new accepted block reply status s fits m step w ends =
+    let h : IsReply start.settings now.store block reply next.store = subst (λ x. IsReply x now.store block reply next.store) s.settings step in
     let whole : flat_map spelling (s.requests ++ block ∷ []) ++ new.held ≡ (flat_map spelling s.requests ++ old.held) ++ m.taken =
     ap (λ l. l ++ new.held) (spellings_more s.requests block) ∙ sym (split_more (flat_map spelling s.requests) old.held m.taken (spelling block) new.held m.split) in
     record {
@@ -244,10 +266,11 @@ wrote_front limit start now next old new accepted block reply status s fits m st
       rest = new.held;
       out = texts s.replies ++ w.part;
       store = next.store;
+      machine = runs_on start.settings s.requests s.replies block reply start.store now.store next.store s.machine h.step;
       course = record {
         takes = subst (Takes start.left next.left) (sym whole) (takes_then start.left now.left next.left (flat_map spelling s.requests ++ old.held) m.taken s.course.takes m.takes);
         each = each_more start.store.hash s.requests block s.course.each (fits_store limit start now old accepted block s fits);
-        run = run_more start.store now.store next.store s.requests s.replies block reply s.course.run step;
+        run = run_more start.settings start.store now.store next.store s.requests s.replies block reply s.course.run h.served;
         writes = writes_then start.written now.written next.written (texts s.replies) w.part s.course.writes w.writes;
       };
       ends = ends (s.requests ++ block ∷ []) s.replies (omega (arith, ap length whole ∙ length-append (flat_map spelling s.requests ++ old.held) m.taken, m.room, s.room));
@@ -255,14 +278,14 @@ wrote_front limit start now next old new accepted block reply status s fits m st
 
 pub ends_write_fault : (limit : ℕ) (start now next : Moment) (old new : Reading) (accepted : Bool) (block : Request) (reply : Reply)
     → SoFar limit start now old accepted → IsRequest old.hash block → Moves old new now.left next.left (spelling block)
-    → Serves now.store block reply next.store → WritesFront now.written next.written (reply_text reply)
+    → IsReply now.settings now.store block reply next.store → WritesFront now.written next.written (reply_text reply)
     → Rose now.sink_faults next.sink_faults → Served limit start next WriteFault
 ends_write_fault limit start now next old new accepted block reply s fits m step w rose =
     wrote_front limit start now next old new accepted block reply WriteFault s fits m step w (λ requests before few. (few, rose_before start.sink_faults now.sink_faults next.sink_faults s.sink_later rose, record { before = before; last = reply; part = w.part; more = w.more; all = refl; written = refl; text = w.is; short = w.short }, refl))
 
 pub ends_sink_memory : (limit : ℕ) (start now next : Moment) (old new : Reading) (accepted : Bool) (block : Request) (reply : Reply)
     → SoFar limit start now old accepted → IsRequest old.hash block → Moves old new now.left next.left (spelling block)
-    → Serves now.store block reply next.store → WritesFront now.written next.written (reply_text reply)
+    → IsReply now.settings now.store block reply next.store → WritesFront now.written next.written (reply_text reply)
     → Served limit start next NoMemory
 ends_sink_memory limit start now next old new accepted block reply s fits m step w =
     wrote_front limit start now next old new accepted block reply NoMemory s fits m step w (λ requests before few. (few, inr (record { before = before; last = reply; part = w.part; more = w.more; all = refl; written = refl; text = w.is; short = w.short }, refl)))
@@ -275,27 +298,55 @@ ends_at_once limit m = record {
   rest = [];
   out = [];
   store = m.store;
-  course = record { takes = takes_none m.left; each = tt; run = refl; writes = writes_none m.written };
+  machine = runs_none m.settings m.store;
+  course = record { takes = takes_none m.left; each = tt; run = run_none m.settings m.store; writes = writes_none m.written };
   ends = (omega arith, inl (refl, inl refl));
 }
 
 reply_some : (reply : Reply) → reply_text reply ≢ []
+unfolding reply_text
 reply_some (Committed id) none = cc
 reply_some (Refused refusal) none = cc
 
 -- the request was run, and no memory was left for its reply
 pub ends_print_memory : (limit : ℕ) (start now next : Moment) (old new : Reading) (accepted : Bool) (block : Request) (reply : Reply)
     → SoFar limit start now old accepted → IsRequest old.hash block → Moves old new now.left next.left (spelling block)
-    → Serves now.store block reply next.store → next.written ≡ now.written → Served limit start next NoMemory
+    → IsReply now.settings now.store block reply next.store → next.written ≡ now.written → Served limit start next NoMemory
 ends_print_memory limit start now next old new accepted block reply s fits m step written =
     ends_sink_memory limit start now next old new accepted block reply s fits m step (record { part = []; more = reply_text reply; is = refl; short = reply_some reply; writes = subst (λ w. Writes now.written w []) (sym written) (writes_none now.written) })
 
-some_ended : (line rest : List ℕ) → 0 < length (ended line ++ rest)
-some_ended line rest = omega (arith, length-append (ended line) rest, length-append line (10 ∷ []))
+abbrev BeginsWithLine : List Item → Type 0
+BeginsWithLine [] = ⊥
+BeginsWithLine ((Line line) ∷ items) = Unit {0}
+BeginsWithLine ((Block bytes) ∷ items) = ⊥
 
-pub spelling_some : (request : Request) → 0 < length (spelling request)
+some_items : (items : List Item) → BeginsWithLine items → 0 < length (items_text items)
+some_items [] h = absurd h
+some_items ((Line line) ∷ items) h = omega (arith, length-append (line ++ 10 ∷ []) (items_text items), length-append line (10 ∷ []))
+some_items ((Block bytes) ∷ items) h = absurd h
+
+begins_with_line : (request : Request) → BeginsWithLine (items_of request)
+begins_with_line (Commit asked) = tt
+begins_with_line (Identity who) = tt
+begins_with_line (Tag asked) = tt
+begins_with_line (Ref asked) = tt
+begins_with_line (Delete name expect) = tt
+begins_with_line (Refs prefix) = tt
+begins_with_line (Log name) = tt
+begins_with_line (Paths id) = tt
+begins_with_line (Walk order ids) = tt
+begins_with_line (Bases first others) = tt
+begins_with_line (Octopus ids) = tt
+begins_with_line (Describe names max id) = tt
+begins_with_line (NoteSet asked) = tt
+begins_with_line (NoteDrop reference object) = tt
+begins_with_line (NoteGet object patterns) = tt
+begins_with_line Head = tt
+begins_with_line (Namespace name) = tt
+
+spelling_some : (request : Request) → 0 < length (spelling request)
 unfolding spelling
-spelling_some (Commit asked) = some_ended (commit_line asked.name) _
+spelling_some request = some_items (items_of request) (begins_with_line request)
 
 pub turn_smaller : (old new : Reading) (left left' : Option (List ℕ)) (block : Request) → Moves old new left left' (spelling block) → length new.held + new.room < length old.held + old.room
 turn_smaller old new left left' block m = omega (arith, ap length m.split, length-append old.held m.taken, length-append (spelling block) new.held, m.room, spelling_some block)

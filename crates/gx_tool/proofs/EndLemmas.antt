@@ -1,146 +1,18 @@
--- What the end of a run says of its script.
-use Rattle.std.proofs.Common.{◌≡◌, ◌∙◌, sym, ap, refl, subst, ℕ, ◌+◌, ◌≤◌, List, [], ◌∷◌, ◌++◌, length, Option, Some, None, arith, append_assoc, length-append, ◌⊎◌, inl, inr, ◌↔◌}
-use Rattle.std.specs.List.{flat_map, AllByRecursion}
-use Rattle.std.proofs.lemmas.List.{append-nil}
-use Rattle.gx_hash.specs.declared.kind.HashKind.{HashKind}
-use Rattle.gx_store.specs.State.{StoreState}
-use Rattle.gx_store.specs.Outside.{Takes, IsEnd}
-use Rattle.gx_script.specs.declared.request.Request.{Request}
-use Rattle.gx_script.specs.Laws.{HasNoRequest}
-use Rattle.gx_script.specs.Spelling.{spelling}
-use Rattle.gx_script.specs.Script.{IsRequest, IsScript, IsBad, StopsAt}
-use Rattle.gx_script.proofs.OneReading.{bad_not_whole, nothing_whole, one_script}
-use Rattle.gx_tool.specs.declared.reply.Reply.{Reply}
+-- How a run that ended answers.
+use Rattle.std.proofs.Common.{refl, ℕ}
 use Rattle.gx_tool.specs.declared.status.Status.{Status}
-use Rattle.gx_tool.specs.declared.status.Status.TheVariants.{Done, Refusals, Malformed, ReadFault, WriteFault, NoMemory, BadWords, StoreFault, TooLong}
-use Rattle.gx_tool.specs.Course.{Moment, Answers, Ends, code, taken_count}
+use Rattle.gx_tool.specs.Course.{Moment, Answers, Served, code}
 
--- what was taken of a source that tells
-taken_of : (old new : Option (List ℕ)) (bytes left taken : List ℕ) → old ≡ Some bytes → new ≡ Some left → Takes old new taken → bytes ≡ taken ++ left
-taken_of old new bytes left taken o n t =
-    let at_new : Takes old (Some left) taken = subst (λ (x : Option (List ℕ)). Takes old x taken) n t in
-    subst (λ (x : Option (List ℕ)). Takes x (Some left) taken) o at_new
-
--- a source that tells what was left tells what is left
-left_of : (bytes taken : List ℕ) (new : Option (List ℕ)) → Takes (Some bytes) new taken → (left : List ℕ) × (new ≡ Some left)
-left_of bytes taken None t = absurd t
-left_of bytes taken (Some left) t = (left, refl)
-
-told_left : (old new : Option (List ℕ)) (bytes taken : List ℕ) → old ≡ Some bytes → Takes old new taken → (left : List ℕ) × (new ≡ Some left)
-told_left old new bytes taken o t = left_of bytes taken new (subst (λ (x : Option (List ℕ)). Takes x new taken) o t)
-
-passed : (limit : ℕ) (start now : Moment) (requests : List Request) (replies : List Reply) (rest out : List ℕ) (store : StoreState) (status : Status) → Ends limit start now requests replies rest out store status → code status ≡ 8 → taken_count requests rest ≡ limit + 1
-passed limit start now requests replies rest out store Done e h = cc
-passed limit start now requests replies rest out store Refusals e h = cc
-passed limit start now requests replies rest out store Malformed e h = cc
-passed limit start now requests replies rest out store ReadFault e h = cc
-passed limit start now requests replies rest out store WriteFault e h = cc
-passed limit start now requests replies rest out store NoMemory e h = cc
-passed limit start now requests replies rest out store BadWords e h = absurd e
-passed limit start now requests replies rest out store StoreFault e h = cc
-passed limit start now requests replies rest out store TooLong e h = e.0
-
-passing : (limit : ℕ) (start now : Moment) (requests : List Request) (replies : List Reply) (rest out : List ℕ) (store : StoreState) (status : Status) → Ends limit start now requests replies rest out store status → taken_count requests rest ≡ limit + 1 → code status ≡ 8
-passing limit start now requests replies rest out store Done e k = absurd (omega (arith, e.0, k))
-passing limit start now requests replies rest out store Refusals e k = absurd (omega (arith, e.0, k))
-passing limit start now requests replies rest out store Malformed e k = absurd (omega (arith, e.0, k))
-passing limit start now requests replies rest out store ReadFault e k = absurd (omega (arith, e.0, k))
-passing limit start now requests replies rest out store WriteFault e k = absurd (omega (arith, e.0, k))
-passing limit start now requests replies rest out store NoMemory e k = absurd (omega (arith, e.0, k))
-passing limit start now requests replies rest out store BadWords e k = absurd e
-passing limit start now requests replies rest out store StoreFault e k = absurd (omega (arith, e.0, k))
-passing limit start now requests replies rest out store TooLong e k = refl
-
-pub eight : (limit : ℕ) (start now : Moment) (number : ℕ) (taken left : List ℕ) → Answers limit start now number → start.left ≡ Some (taken ++ left) → now.left ≡ Some left → (number ≡ 8) ↔ (length taken ≡ limit + 1)
-eight limit start now number taken left a o n =
-    let text : List ℕ = flat_map spelling a.requests ++ a.rest in
-    let same : taken ++ left ≡ text ++ left = taken_of start.left now.left (taken ++ left) left text o n a.course.takes in
-    let count : length taken ≡ length text = omega (arith, ap length same, length-append taken left, length-append text left) in (
-      λ h. count ∙ passed limit start now a.requests a.replies a.rest a.out a.store a.status a.ends (sym a.is ∙ h),
-      λ h. a.is ∙ passing limit start now a.requests a.replies a.rest a.out a.store a.status a.ends (sym count ∙ h),
-    )
-
--- a run that ended by itself took all, and all of it was requests
-whole : (limit : ℕ) (start now : Moment) (requests : List Request) (replies : List Reply) (rest out : List ℕ) (store : StoreState) (status : Status) → Ends limit start now requests replies rest out store status → (code status ≡ 0) ⊎ (code status ≡ 1) → (rest ≡ []) × IsEnd now.left
-whole limit start now requests replies rest out store Done e h = (e.1, e.2)
-whole limit start now requests replies rest out store Refusals e h = (e.1, e.2)
-whole limit start now requests replies rest out store Malformed e (inl h) = cc
-whole limit start now requests replies rest out store Malformed e (inr h) = cc
-whole limit start now requests replies rest out store ReadFault e (inl h) = cc
-whole limit start now requests replies rest out store ReadFault e (inr h) = cc
-whole limit start now requests replies rest out store WriteFault e (inl h) = cc
-whole limit start now requests replies rest out store WriteFault e (inr h) = cc
-whole limit start now requests replies rest out store NoMemory e (inl h) = cc
-whole limit start now requests replies rest out store NoMemory e (inr h) = cc
-whole limit start now requests replies rest out store BadWords e h = absurd e
-whole limit start now requests replies rest out store StoreFault e (inl h) = cc
-whole limit start now requests replies rest out store StoreFault e (inr h) = cc
-whole limit start now requests replies rest out store TooLong e (inl h) = cc
-whole limit start now requests replies rest out store TooLong e (inr h) = cc
-
-of_status : (number : ℕ) (status : Status) → number ≡ code status → (number ≡ 0) ⊎ (number ≡ 1) → (code status ≡ 0) ⊎ (code status ≡ 1)
-of_status number status is (inl h) = inl (sym is ∙ h)
-of_status number status is (inr h) = inr (sym is ∙ h)
-
-pub whole_script : (limit : ℕ) (start now : Moment) (number : ℕ) (bytes : List ℕ) → Answers limit start now number → start.left ≡ Some bytes → (number ≡ 0) ⊎ (number ≡ 1)
-    → (now.left ≡ Some []) × ((requests : List Request) × IsScript start.store.hash bytes requests)
-whole_script limit start now number bytes a o h =
-    let w = whole limit start now a.requests a.replies a.rest a.out a.store a.status a.ends (of_status number a.status a.is h) in
-    let left = told_left start.left now.left bytes (flat_map spelling a.requests ++ a.rest) o a.course.takes in
-    let none : left.0 ≡ [] = subst IsEnd left.1 w.1 in
-    let ended : now.left ≡ Some [] = left.1 ∙ ap Some none in
-    let same : bytes ≡ (flat_map spelling a.requests ++ a.rest) ++ [] = taken_of start.left now.left bytes [] (flat_map spelling a.requests ++ a.rest) o ended a.course.takes in
-    let all : bytes ≡ flat_map spelling a.requests = same ∙ append-nil (flat_map spelling a.requests ++ a.rest) ∙ ap (λ (r : List ℕ). flat_map spelling a.requests ++ r) w.0 ∙ append-nil (flat_map spelling a.requests) in
-    (ended, (a.requests, record { each = a.course.each; whole = all }))
-
--- bytes that go wrong go wrong with all that is behind them
-bad_on : (hash : HashKind) (rest left : List ℕ) (newlines : ℕ) → IsBad hash rest (IsEnd (Some left)) newlines → HasNoRequest hash (rest ++ left)
-bad_on hash rest left newlines h = go h.more h.split h.stops
-  where
-    go : (more : List ℕ) → rest ≡ h.front ++ more → StopsAt hash (IsEnd (Some left)) h.front more → HasNoRequest hash (rest ++ left)
-    go [] split stops = subst (HasNoRequest hash) (sym (ap (λ (l : List ℕ). rest ++ l) stops.0 ∙ append-nil rest)) (bad_not_whole hash rest (IsEnd (Some left)) newlines h)
-    go (b ∷ more) split stops = bad_not_whole hash (rest ++ left) ⊥ newlines (record {
-      front = h.front;
-      more = b ∷ (more ++ left);
-      split = ap (λ (l : List ℕ). l ++ left) split ∙ append_assoc h.front (b ∷ more) left;
-      begins = h.begins;
-      count = h.count;
-      stops = stops;
-    })
-
-nil_front : (xs ys : List ℕ) → xs ++ ys ≡ [] → xs ≡ []
-nil_front [] ys e = refl
-nil_front (x ∷ xs) ys e = cc
-
-nil_back : (xs ys : List ℕ) → xs ++ ys ≡ [] → ys ≡ []
-nil_back [] ys e = e
-nil_back (x ∷ xs) ys e = cc
-
--- no bytes do not go wrong
-nothing_bad : (hash : HashKind) (rest : List ℕ) (ends : Type 0) (newlines : ℕ) → rest ≡ [] → IsBad hash rest ends newlines → ⊥
-nothing_bad hash rest ends newlines none h = go h.more (nil_back h.front h.more (sym h.split ∙ none)) h.stops
-  where
-    go : (more : List ℕ) → more ≡ [] → StopsAt hash ends h.front more → ⊥
-    go [] e stops = stops.1 (nil_front h.front h.more (sym h.split ∙ none))
-    go (b ∷ more) e stops = cc
-
-malformed : (limit : ℕ) (start now : Moment) (requests : List Request) (replies : List Reply) (rest out : List ℕ) (store : StoreState) (status : Status) → Ends limit start now requests replies rest out store status → code status ≡ 2 → (newlines : ℕ) × IsBad start.store.hash rest (IsEnd now.left) newlines
-malformed limit start now requests replies rest out store Done e h = cc
-malformed limit start now requests replies rest out store Refusals e h = cc
-malformed limit start now requests replies rest out store Malformed e h = (e.1.0, e.1.1)
-malformed limit start now requests replies rest out store ReadFault e h = cc
-malformed limit start now requests replies rest out store WriteFault e h = cc
-malformed limit start now requests replies rest out store NoMemory e h = cc
-malformed limit start now requests replies rest out store BadWords e h = absurd e
-malformed limit start now requests replies rest out store StoreFault e h = cc
-malformed limit start now requests replies rest out store TooLong e h = cc
-
-pub not_malformed : (limit : ℕ) (start now : Moment) (number : ℕ) (bytes : List ℕ) (requests : List Request) → Answers limit start now number → start.left ≡ Some bytes → IsScript start.store.hash bytes requests → number ≡ 2 → ⊥
-not_malformed limit start now number bytes requests a o script h =
-    let bad = malformed limit start now a.requests a.replies a.rest a.out a.store a.status a.ends (sym a.is ∙ h) in
-    let left = told_left start.left now.left bytes (flat_map spelling a.requests ++ a.rest) o a.course.takes in
-    let wrong : IsBad start.store.hash a.rest (IsEnd (Some left.0)) bad.0 = subst (λ (l : Option (List ℕ)). IsBad start.store.hash a.rest (IsEnd l) bad.0) left.1 bad.1 in
-    let same : bytes ≡ (flat_map spelling a.requests ++ a.rest) ++ left.0 = taken_of start.left now.left bytes left.0 (flat_map spelling a.requests ++ a.rest) o left.1 a.course.takes in
-    let both : flat_map spelling a.requests ++ (a.rest ++ left.0) ≡ flat_map spelling requests ++ [] = sym (append_assoc (flat_map spelling a.requests) a.rest left.0) ∙ sym same ∙ script.whole ∙ sym (append-nil (flat_map spelling requests)) in
-    let one = one_script start.store.hash a.requests requests (a.rest ++ left.0) [] a.course.each script.each (bad_on start.store.hash a.rest left.0 bad.0 wrong) (nothing_whole start.store.hash) both in
-    nothing_bad start.store.hash a.rest (IsEnd (Some left.0)) bad.0 (nil_front a.rest left.0 one.1) wrong
+pub answers_of : (limit : ℕ) (start now : Moment) (status : Status) → Served limit start now status → Answers limit start now (code status)
+answers_of limit start now status s = record {
+  status = status;
+  is = refl;
+  requests = s.requests;
+  replies = s.replies;
+  rest = s.rest;
+  out = s.out;
+  store = s.store;
+  course = s.course;
+  machine = s.machine;
+  ends = s.ends;
+}

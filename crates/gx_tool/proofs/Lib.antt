@@ -1,5 +1,9 @@
-pub mod CourseLemmas
-pub mod EndLemmas
-pub mod MachineLemmas
-pub mod ServingLemmas
 pub mod OutsideLemmas
+pub mod ServingLemmas
+pub mod MachineLemmas
+pub mod CourseLemmas
+pub mod RequestLemmas
+pub mod EndLemmas
+pub mod FaultlessLemmas
+pub mod ValidLemmas
+pub mod LawLemmas

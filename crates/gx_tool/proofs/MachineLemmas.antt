@@ -1,70 +1,123 @@
 -- What a store serves, the repository machine may do.
-use Rattle.std.proofs.Common.{◌≡◌, refl, sym, subst, ℕ, List, [], ◌∷◌, Option, Some, None, Result, Ok, Err, IfOk, IfErr}
+use Rattle.std.proofs.Common.{◌≡◌, refl, sym, subst, List, [], ◌∷◌, ◌++◌, Option, Some, None, Result, Ok, Err, IfOk, IfErr}
 use Rattle.gx_hash.specs.declared.oid.ObjectId.{ObjectId}
 use Rattle.gx_store.specs.State.{StoreState}
-use Rattle.gix.specs.CommitEdits.{Commits, Leaves, CommitEditsCauses}
-use Rattle.gix.specs.declared.commit_edits.CommitEditsError.{CommitEditsError}
-use Rattle.gix.specs.Machine.{State, state_of, BothTold, WhereTold}
-use Rattle.gix.proofs.MachineLemmas.{accepts_of, refuses_of}
+use Rattle.gix.specs.declared.settings.Settings.{Settings}
+use Rattle.gix.specs.declared.error.CommitEditsError.{CommitEditsError}
+use Rattle.gix.specs.declared.error.CommitEditsError.TheVariants as error
+use Rattle.gix.specs.CommitEdits.{Commits, Leaves}
+use Rattle.gix.specs.Causes.{CommitEditsCauses}
+use Rattle.gix.specs.View.{State}
+use Rattle.gix.specs.Machine.{Accepts, Refuses, IsRefusal, state_of, BothTold, WhereTold}
 use Rattle.gx_script.specs.declared.request.CommitRequest.{CommitRequest as Asked}
 use Rattle.gx_script.specs.declared.request.Request.{Request}
-use Rattle.gx_script.specs.declared.request.Request.TheVariants.{Commit}
+use Rattle.gx_script.specs.declared.request.Request.TheVariants.{Commit, Identity, Tag, Ref, Delete, Refs, Log, Paths, Walk, Bases, Octopus, Describe, NoteSet, NoteDrop, NoteGet, Head, Namespace}
 use Rattle.gx_tool.specs.declared.execute.ExecuteError.{ExecuteError}
-use Rattle.gx_tool.specs.declared.reply.Refusal.TheVariants.{Unsupported, EmptyComponent, MustNotExist, Conflict}
+use Rattle.gx_tool.specs.declared.refusal.Refusal.TheVariants.{Unsupported}
 use Rattle.gx_tool.specs.declared.reply.Reply.{Reply}
-use Rattle.gx_tool.specs.declared.reply.Reply.TheVariants.{Committed, Refused}
-use Rattle.gx_tool.specs.declared.status.Status.{Status}
-use Rattle.gx_tool.specs.Course.{Moment, Served, Answers, code}
-use Rattle.gx_tool.specs.Machine.{Step, Run}
-use Rattle.gx_tool.specs.Serving.{call_of, error_of, outcome_of, Serves, ServesAll}
-use Rattle.gx_tool.proofs.ServingLemmas.{replied}
+use Rattle.gx_tool.specs.declared.reply.Reply.TheVariants.{Refused}
+use Rattle.gx_tool.specs.Machine.{Step, Run, IsReply}
+use Rattle.gx_tool.specs.Serving.{call_of, reply_to, reply_to_refusal, Serves}
+use Rattle.gx_tool.proofs.ServingLemmas.{served, unserved}
 
-pub step_of : (old : StoreState) (request : Request) (reply : Reply) (new : StoreState) → Serves old request reply new → WhereTold (λ old new. Step old request reply new) old new
-step_of old (Commit asked) (Committed id) new s = accepts_of (call_of asked) old new id s
-step_of old (Commit asked) (Refused Unsupported) new s = refuses_of (call_of asked) old new (error_of Unsupported) s.0 s.1 tt
-step_of old (Commit asked) (Refused (EmptyComponent path)) new s = refuses_of (call_of asked) old new (error_of (EmptyComponent path)) s.0 s.1 tt
-step_of old (Commit asked) (Refused (MustNotExist name actual)) new s = refuses_of (call_of asked) old new (error_of (MustNotExist name actual)) s.0 s.1 tt
-step_of old (Commit asked) (Refused (Conflict name other)) new s = refuses_of (call_of asked) old new (error_of (Conflict name other)) s.0 s.1 tt
+both_told : (P Q : State → State → Type 0) (a b : Option State) → ((old new : State) → P old new → Q old new) → BothTold P a b → BothTold Q a b
+both_told P Q None None f h = tt
+both_told P Q None (Some b) f h = absurd h
+both_told P Q (Some a) None f h = absurd h
+both_told P Q (Some a) (Some b) f h = f a b h
 
-steps_where_ok : (result : Result Reply ExecuteError) (request : Request) (old new : StoreState) → IfOk result (λ reply. Serves old request reply new) → IfOk result (λ reply. WhereTold (λ old new. Step old request reply new) old new)
-steps_where_ok (Ok reply) request old new s = step_of old request reply new s
-steps_where_ok (Err e) request old new s = tt
+-- a refusal that gets a reply is a step
+refused : (e : CommitEditsError) (settings : Settings) (asked : Asked) (old new : StoreState) → (IsRefusal e → WhereTold (λ o n. Refuses settings (call_of asked) o e n) old new) → IfOk (reply_to_refusal e) (λ reply. WhereTold (λ o n. Step settings o (Commit asked) reply n) old new)
+unfolding Step
+refused (error.FindExistingObject id) settings asked old new h = both_told _ _ (state_of old) (state_of new) (λ o n refuses. record { refusal = error.FindExistingObject id; told = refl; refuses = refuses }) (h tt)
+refused (error.ObjectKind id actual) settings asked old new h = both_told _ _ (state_of old) (state_of new) (λ o n refuses. record { refusal = error.ObjectKind id actual; told = refl; refuses = refuses }) (h tt)
+refused (error.Decode id) settings asked old new h = both_told _ _ (state_of old) (state_of new) (λ o n refuses. record { refusal = error.Decode id; told = refl; refuses = refuses }) (h tt)
+refused (error.EmptyPathComponent path) settings asked old new h = both_told _ _ (state_of old) (state_of new) (λ o n refuses. record { refusal = error.EmptyPathComponent path; told = refl; refuses = refuses }) (h tt)
+refused (error.InvalidFilename filename kind id source) settings asked old new h = both_told _ _ (state_of old) (state_of new) (λ o n refuses. record { refusal = error.InvalidFilename filename kind id source; told = refl; refuses = refuses }) (h tt)
+refused (error.MissingObject filename kind id) settings asked old new h = both_told _ _ (state_of old) (state_of new) (λ o n refuses. record { refusal = error.MissingObject filename kind id; told = refl; refuses = refuses }) (h tt)
+refused (error.WriteObject field) settings asked old new h = both_told _ _ (state_of old) (state_of new) (λ o n refuses. record { refusal = error.WriteObject field; told = refl; refuses = refuses }) (h tt)
+refused (error.Cycle name) settings asked old new h = both_told _ _ (state_of old) (state_of new) (λ o n refuses. record { refusal = error.Cycle name; told = refl; refuses = refuses }) (h tt)
+refused (error.DepthLimitExceeded name) settings asked old new h = both_told _ _ (state_of old) (state_of new) (λ o n refuses. record { refusal = error.DepthLimitExceeded name; told = refl; refuses = refuses }) (h tt)
+refused (error.MustExist name) settings asked old new h = both_told _ _ (state_of old) (state_of new) (λ o n refuses. record { refusal = error.MustExist name; told = refl; refuses = refuses }) (h tt)
+refused (error.MustNotExist name actual) settings asked old new h = both_told _ _ (state_of old) (state_of new) (λ o n refuses. record { refusal = error.MustNotExist name actual; told = refl; refuses = refuses }) (h tt)
+refused (error.ReferenceOutOfDate name expected actual) settings asked old new h = both_told _ _ (state_of old) (state_of new) (λ o n refuses. record { refusal = error.ReferenceOutOfDate name expected actual; told = refl; refuses = refuses }) (h tt)
+refused (error.NameConflict name other) settings asked old new h = both_told _ _ (state_of old) (state_of new) (λ o n refuses. record { refusal = error.NameConflict name other; told = refl; refuses = refuses }) (h tt)
+refused (error.Store fault) settings asked old new h = tt
+refused error.NoMemory settings asked old new h = tt
 
--- what the program makes of an accepted or a refused commit
-pub step_replied : (result : Result Reply ExecuteError) (outcome : Result ObjectId CommitEditsError) (request : Request) (asked : Asked) (old new : StoreState) → result ≡ outcome_of outcome → request ≡ Commit asked
-    → IfOk outcome (λ id. Commits (call_of asked) old id new) → IfErr outcome (Leaves (call_of asked) old new) → IfErr outcome (CommitEditsCauses (call_of asked) old new) → IfOk result (λ reply. WhereTold (λ old new. Step old request reply new) old new)
-step_replied result outcome request asked old new is asks ok leaves causes = steps_where_ok result request old new (replied result outcome request asked old new is asks ok leaves causes)
+step_by : (outcome : Result ObjectId CommitEditsError) (settings : Settings) (asked : Asked) (old new : StoreState) → IfOk outcome (λ id. WhereTold (λ o n. Accepts settings (call_of asked) o id n) old new) → IfErr outcome (λ e. IsRefusal e → WhereTold (λ o n. Refuses settings (call_of asked) o e n) old new) → IfOk (reply_to outcome) (λ reply. WhereTold (λ o n. Step settings o (Commit asked) reply n) old new)
+unfolding Step
+step_by (Ok id) settings asked old new accepts refuses = accepts
+step_by (Err e) settings asked old new accepts refuses = refused e settings asked old new refuses
 
-told_itself : (told : Option State) → BothTold (λ old new. new ≡ old) told told
-told_itself None = tt
-told_itself (Some state) = refl
+both_replied : (result : Result Reply ExecuteError) (settings : Settings) (request : Request) (old new : StoreState) → IfOk result (λ reply. Serves settings old request reply new) → IfOk result (λ reply. WhereTold (λ o n. Step settings o request reply n) old new) → IfOk result (λ reply. IsReply settings old request reply new)
+both_replied (Ok reply) settings request old new served step = record { served = served; step = step }
+both_replied (Err e) settings request old new served step = tt
+
+-- what a commit gets that gets a reply
+pub replied : (result : Result Reply ExecuteError) (outcome : Result ObjectId CommitEditsError) (settings : Settings) (asked : Asked) (old new : StoreState) → result ≡ reply_to outcome
+    → IfOk outcome (λ id. Commits settings (call_of asked) old id new) → IfErr outcome (Leaves settings (call_of asked) old new) → IfErr outcome (CommitEditsCauses settings (call_of asked) old new)
+    → IfOk outcome (λ id. WhereTold (λ o n. Accepts settings (call_of asked) o id n) old new) → IfErr outcome (λ e. IsRefusal e → WhereTold (λ o n. Refuses settings (call_of asked) o e n) old new)
+    → IfOk result (λ reply. IsReply settings old (Commit asked) reply new)
+replied result outcome settings asked old new is ok leaves causes accepts refuses =
+    both_replied result settings (Commit asked) old new (served result outcome settings asked old new is ok leaves causes)
+    (subst (λ r. IfOk r (λ reply. WhereTold (λ o n. Step settings o (Commit asked) reply n) old new)) (sym is) (step_by outcome settings asked old new accepts refuses))
+
+told_itself : (R : State → State → Type 0) (told : Option State) → ((state : State) → R state state) → BothTold R told told
+told_itself R None h = tt
+told_itself R (Some state) h = h state
+
+still : (request : Request) (settings : Settings) (state : State) → ((asked : Asked) → request ≡ Commit asked → ⊥) → Step settings state request (Refused Unsupported) state
+unfolding Step
+still (Commit asked) settings state other = absurd (other asked refl)
+still (Identity who) settings state other = (refl, refl)
+still (Tag asked) settings state other = (refl, refl)
+still (Ref asked) settings state other = (refl, refl)
+still (Delete name expect) settings state other = (refl, refl)
+still (Refs prefix) settings state other = (refl, refl)
+still (Log name) settings state other = (refl, refl)
+still (Paths id) settings state other = (refl, refl)
+still (Walk order ids) settings state other = (refl, refl)
+still (Bases first others) settings state other = (refl, refl)
+still (Octopus ids) settings state other = (refl, refl)
+still (Describe names max id) settings state other = (refl, refl)
+still (NoteSet asked) settings state other = (refl, refl)
+still (NoteDrop reference object) settings state other = (refl, refl)
+still (NoteGet object patterns) settings state other = (refl, refl)
+still Head settings state other = (refl, refl)
+still (Namespace name) settings state other = (refl, refl)
+
+-- the reply to a form that is not served yet
+pub unsupported : (request : Request) (settings : Settings) (old : StoreState) → ((asked : Asked) → request ≡ Commit asked → ⊥) → IsReply settings old request (Refused Unsupported) old
+unsupported request settings old other = record {
+  served = unserved request settings old other;
+  step = told_itself (λ o n. Step settings o request (Refused Unsupported) n) (state_of old) (λ state. still request settings state other);
+}
 
 -- a state that is told at both ends is told on the way
-told_then : (P Q : State → State → Type 0) (a b c : Option State) → BothTold P a b → BothTold Q b c → BothTold (λ old new. (mid : State) × P old mid × Q mid new) a c
-told_then P Q None None None p q = tt
-told_then P Q None None (Some c) p q = absurd q
-told_then P Q None (Some b) c p q = absurd p
-told_then P Q (Some a) None c p q = absurd p
-told_then P Q (Some a) (Some b) None p q = absurd q
-told_then P Q (Some a) (Some b) (Some c) p q = (b, p, q)
+told_then : (P Q R : State → State → Type 0) (a b c : Option State) → ((old mid new : State) → P old mid → Q mid new → R old new) → BothTold P a b → BothTold Q b c → BothTold R a c
+told_then P Q R None None None f p q = tt
+told_then P Q R None None (Some c) f p q = absurd q
+told_then P Q R None (Some b) c f p q = absurd p
+told_then P Q R (Some a) None c f p q = absurd p
+told_then P Q R (Some a) (Some b) None f p q = absurd q
+told_then P Q R (Some a) (Some b) (Some c) f p q = f a b c p q
 
-pub run_of : (old : StoreState) (requests : List Request) (replies : List Reply) (new : StoreState) → ServesAll old requests replies new → WhereTold (λ old new. Run old requests replies new) old new
-run_of old [] [] new s = subst (λ (n : StoreState). WhereTold (λ old new. new ≡ old) old n) (sym s) (told_itself (state_of old))
-run_of old [] (reply ∷ replies) new s = absurd s
-run_of old (request ∷ requests) [] new s = absurd s
-run_of old (request ∷ requests) (reply ∷ replies) new s =
-    told_then (λ old new. Step old request reply new) (λ old new. Run old requests replies new) (state_of old) (state_of s.0) (state_of new) (step_of old request reply s.0 s.1) (run_of s.0 requests replies new s.2)
+-- a run goes on by a step
+run_on : (settings : Settings) (requests : List Request) (replies : List Reply) (request : Request) (reply : Reply) (old mid new : State) → Run settings old requests replies mid → Step settings mid request reply new → Run settings old (requests ++ request ∷ []) (replies ++ reply ∷ []) new
+unfolding Run
+run_on settings [] [] request reply old mid new run step = (new, subst (λ o. Step settings o request reply new) run step, refl)
+run_on settings [] (r ∷ rs) request reply old mid new run step = absurd run
+run_on settings (q ∷ qs) [] request reply old mid new run step = absurd run
+run_on settings (q ∷ qs) (r ∷ rs) request reply old mid new run step = (run.0, run.1, run_on settings qs rs request reply run.0 mid new run.2 step)
 
-pub answers_of : (limit : ℕ) (start now : Moment) (status : Status) → Served limit start now status → Answers limit start now (code status)
-answers_of limit start now status s = record {
-  status = status;
-  is = refl;
-  requests = s.requests;
-  replies = s.replies;
-  rest = s.rest;
-  out = s.out;
-  store = s.store;
-  course = s.course;
-  machine = run_of start.store s.requests s.replies s.store s.course.run;
-  ends = s.ends;
-}
+pub runs_on : (settings : Settings) (requests : List Request) (replies : List Reply) (request : Request) (reply : Reply) (old mid new : StoreState) → WhereTold (λ o n. Run settings o requests replies n) old mid → WhereTold (λ o n. Step settings o request reply n) mid new → WhereTold (λ o n. Run settings o (requests ++ request ∷ []) (replies ++ reply ∷ []) n) old new
+runs_on settings requests replies request reply old mid new run step =
+    told_then _ _ _ (state_of old) (state_of mid) (state_of new) (λ o m n p q. run_on settings requests replies request reply o m n p q) run step
+
+no_run : (settings : Settings) (state : State) → Run settings state [] [] state
+unfolding Run
+no_run settings state = refl
+
+pub runs_none : (settings : Settings) (store : StoreState) → WhereTold (λ o n. Run settings o [] [] n) store store
+runs_none settings store = told_itself (λ o n. Run settings o [] [] n) (state_of store) (no_run settings)

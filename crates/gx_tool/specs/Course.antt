@@ -16,6 +16,7 @@ use Rattle.gx_tool.specs.declared.execute.ExecuteError.TheVariants as no_reply
 use Rattle.gx_tool.specs.declared.status.Status.{Status}
 use Rattle.gx_tool.specs.declared.status.Status.TheVariants.{Done, Refusals, Malformed, ReadFault, WriteFault, NoMemory, BadWords, StoreFault, TooLong}
 use Rattle.gix.specs.Machine.{WhereTold}
+use Rattle.gix.specs.declared.settings.Settings.{Settings}
 use Rattle.gx_tool.specs.Serving.{ServesAll, Stops}
 use Rattle.gx_tool.specs.Machine.{Run}
 use Rattle.gx_tool.specs.Reply.{reply_text, texts, all_accepted}
@@ -32,8 +33,9 @@ code BadWords = 6
 code StoreFault = 7
 code TooLong = 8
 
--- What the outside is like at a moment: the store, what is left of the script and what was written, where told, and the counts of faults of source and sink.
+-- What is there at a moment: the repository's settings and its store, what is left of the script and what was written, where told, and the counts of faults of source and sink.
 pub record Moment : Type 0 where
+  pub settings : Settings
   pub store : StoreState
   pub left : Option (List ℕ)
   pub written : Option (List ℕ)
@@ -44,7 +46,7 @@ pub record Moment : Type 0 where
 pub record Course (start now : Moment) (requests : List Request) (replies : List Reply) (rest : List ℕ) (out : List ℕ) (store : StoreState) : Type 0 where
   pub takes : Takes start.left now.left (flat_map spelling requests ++ rest)
   pub each : AllByRecursion (IsRequest start.store.hash) requests
-  pub run : ServesAll start.store requests replies store
+  pub run : ServesAll start.settings start.store requests replies store
   pub writes : Writes start.written now.written out
 
 -- all replies but the last were written, and of that a front, but not all
@@ -59,12 +61,12 @@ pub record IsCut (replies : List Reply) (out : List ℕ) : Type 0 where
   pub short : more ≢ []
 
 -- a whole request of the store's kind stands at the front of the rest, and got no reply
-pub record GotNoReply (hash : HashKind) (old : StoreState) (rest : List ℕ) (error : ExecuteError) (new : StoreState) : Type 0 where
+pub record GotNoReply (settings : Settings) (hash : HashKind) (old : StoreState) (rest : List ℕ) (error : ExecuteError) (new : StoreState) : Type 0 where
   pub request : Request
   pub more : List ℕ
   pub fits : IsRequest hash request
   pub is : rest ≡ spelling request ++ more
-  pub fails : Stops old request new error
+  pub fails : Stops settings old request new error
 
 -- all but the last byte begin a request, or are none
 pub record IsOneTooMany (hash : HashKind) (rest : List ℕ) : Type 0 where
@@ -78,16 +80,16 @@ abbrev pub taken_count : List Request → List ℕ → ℕ
 taken_count requests rest = length (flat_map spelling requests ++ rest)
 
 -- How a run ends, by its status: after these requests and replies, with this rest of the bytes taken, these bytes written, and the store as it was after the last reply.
--- 0 and 1: the script was read to its end, and all of its replies were written. 2: the bytes behind the requests are malformed. 3: a read failed; the bytes behind the requests begin one, or are none. 4: a write failed within a reply. 5: memory ran out. 6: never, since nothing is run. 7: the store failed at a request. 8: a byte past the limit was taken; those before it, behind the requests, begin one, or are none.
+-- 0 and 1: the script was read to its end, and all of its replies were written. 2: the bytes behind the requests are malformed. 3: a read failed; the bytes behind the requests begin one, or are none. 4: a write failed within a reply. 5: memory ran out. 6: never, since nothing is run. 7: the store failed at a request. 8: a byte past the limit was taken; those before it, behind the requests, begin one, or are none. (Ours; docs/SCRIPT.md.)
 abbrev pub Ends : ℕ → Moment → Moment → List Request → List Reply → List ℕ → List ℕ → StoreState → Status → Type 0
 Ends limit start now requests replies rest out store Done = (taken_count requests rest ≤ limit) × (rest ≡ []) × IsEnd now.left × (out ≡ texts replies) × (now.store ≡ store) × (all_accepted replies ≡ true)
 Ends limit start now requests replies rest out store Refusals = (taken_count requests rest ≤ limit) × (rest ≡ []) × IsEnd now.left × (out ≡ texts replies) × (now.store ≡ store) × (all_accepted replies ≡ false)
 Ends limit start now requests replies rest out store Malformed = (taken_count requests rest ≤ limit) × ((newlines : ℕ) × IsBad start.store.hash rest (IsEnd now.left) newlines) × (out ≡ texts replies) × (now.store ≡ store)
 Ends limit start now requests replies rest out store ReadFault = (taken_count requests rest ≤ limit) × Begins start.store.hash rest × Rose start.source_faults now.source_faults × (out ≡ texts replies) × (now.store ≡ store)
 Ends limit start now requests replies rest out store WriteFault = (taken_count requests rest ≤ limit) × Rose start.sink_faults now.sink_faults × IsCut replies out × (now.store ≡ store)
-Ends limit start now requests replies rest out store NoMemory = (taken_count requests rest ≤ limit) × (((out ≡ texts replies) × ((now.store ≡ store) ⊎ GotNoReply start.store.hash store rest no_reply.NoMemory now.store)) ⊎ (IsCut replies out × (now.store ≡ store)))
+Ends limit start now requests replies rest out store NoMemory = (taken_count requests rest ≤ limit) × (((out ≡ texts replies) × ((now.store ≡ store) ⊎ GotNoReply start.settings start.store.hash store rest no_reply.NoMemory now.store)) ⊎ (IsCut replies out × (now.store ≡ store)))
 Ends limit start now requests replies rest out store BadWords = ⊥
-Ends limit start now requests replies rest out store StoreFault = (taken_count requests rest ≤ limit) × (out ≡ texts replies) × ((fault : What) × GotNoReply start.store.hash store rest (no_reply.Store fault) now.store)
+Ends limit start now requests replies rest out store StoreFault = (taken_count requests rest ≤ limit) × (out ≡ texts replies) × ((fault : What) × GotNoReply start.settings start.store.hash store rest (no_reply.Store fault) now.store)
 Ends limit start now requests replies rest out store TooLong = (taken_count requests rest ≡ limit + 1) × IsOneTooMany start.store.hash rest × (out ≡ texts replies) × (now.store ≡ store)
 
 -- A whole run: some requests were read and run, and it ended so.
@@ -98,6 +100,7 @@ pub record Served (limit : ℕ) (start now : Moment) (status : Status) : Type 0 
   pub out : List ℕ
   pub store : StoreState
   pub course : Course start now requests replies rest out store
+  pub machine : WhereTold (λ old new. Run start.settings old requests replies new) start.store store
   pub ends : Ends limit start now requests replies rest out store status
 
 -- the bytes before the rest were written
@@ -114,7 +117,7 @@ pub record WritesFront (written written' : Option (List ℕ)) (bytes : List ℕ)
   pub short : more ≢ []
   pub writes : Writes written written' part
 
--- the words after the program's name that ask for a run: a store, and `apply`
+-- the words after the program's name that ask for a run: a store, and `apply` (ours; docs/SCRIPT.md)
 abbrev pub IsApply : List (String Global) → Type 0
 IsApply [] = ⊥
 IsApply (store ∷ []) = ⊥
@@ -131,5 +134,5 @@ pub record Answers (limit : ℕ) (start now : Moment) (number : ℕ) : Type 0 wh
   pub out : List ℕ
   pub store : StoreState
   pub course : Course start now requests replies rest out store
-  pub machine : WhereTold (λ old new. Run old requests replies new) start.store store
+  pub machine : WhereTold (λ old new. Run start.settings old requests replies new) start.store store
   pub ends : Ends limit start now requests replies rest out store status

@@ -1,3 +1,4 @@
+pub mod Completeness
 pub mod Course
 pub mod Machine
 pub mod Reply

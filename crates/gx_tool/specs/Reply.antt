@@ -2,10 +2,15 @@
 use Rattle.std.specs.Prelude.{ℕ, Bool, true, false, List, [], ◌∷◌, ◌++◌, codes}
 use Rattle.std.specs.List.{flat_map, list_all}
 use Rattle.gx_hash.specs.ObjectId.{hex_of}
+use Rattle.gx_object.specs.Kind.{kind_name}
+use Rattle.gx_object.specs.Mode.{mode_of}
+use Rattle.gx_object.specs.Tree.{octal_of}
+use Rattle.gx_object.specs.declared.encode.Field.{Field}
+use Rattle.gx_object.specs.declared.encode.Field.TheVariants.{FileName, AuthorName, AuthorEmail, AuthorOffset, CommitterName, CommitterEmail, CommitterOffset, TaggerName, TaggerEmail, TaggerOffset, TagName, Encoding, HeaderName}
 use Rattle.gx_store.specs.declared.target.Target.{Target}
 use Rattle.gx_store.specs.declared.target.Target.TheVariants.{Object, Symbolic}
-use Rattle.gx_tool.specs.declared.reply.Refusal.{Refusal}
-use Rattle.gx_tool.specs.declared.reply.Refusal.TheVariants.{Unsupported, EmptyComponent, MustNotExist, Conflict}
+use Rattle.gx_tool.specs.declared.refusal.Refusal.{Refusal}
+use Rattle.gx_tool.specs.declared.refusal.Refusal.TheVariants.{Unsupported, Find, Kind, Decode, EmptyComponent, Filename, Missing, Unwritable, Cycle, Depth, MustExist, MustNotExist, OutOfDate, Conflict}
 use Rattle.gx_tool.specs.declared.reply.Reply.{Reply}
 use Rattle.gx_tool.specs.declared.reply.Reply.TheVariants.{Committed, Refused}
 
@@ -14,15 +19,40 @@ abbrev pub target_text : Target → List ℕ
 target_text (Object id) = hex_of id
 target_text (Symbolic name) = 64 ∷ name
 
--- the word of a refusal, and what it keeps
+abbrev pub field_text : Field → List ℕ
+field_text FileName = codes "file-name"
+field_text AuthorName = codes "author-name"
+field_text AuthorEmail = codes "author-email"
+field_text AuthorOffset = codes "author-offset"
+field_text CommitterName = codes "committer-name"
+field_text CommitterEmail = codes "committer-email"
+field_text CommitterOffset = codes "committer-offset"
+field_text TaggerName = codes "tagger-name"
+field_text TaggerEmail = codes "tagger-email"
+field_text TaggerOffset = codes "tagger-offset"
+field_text TagName = codes "tag-name"
+field_text Encoding = codes "encoding"
+field_text HeaderName = codes "header-name"
+
+-- A refusal is a word and what it keeps, each behind a space. The mode of an entry is in octal. (Ours; docs/SCRIPT.md.)
 abbrev pub refusal_text : Refusal → List ℕ
 refusal_text Unsupported = codes "unsupported"
-refusal_text (EmptyComponent path) = codes "empty-component " ++ path
-refusal_text (MustNotExist name actual) = (codes "must-not-exist " ++ name ++ 32 ∷ []) ++ target_text actual
-refusal_text (Conflict name other) = (codes "conflict " ++ name ++ 32 ∷ []) ++ other
+refusal_text (Find id) = codes "find" ++ 32 ∷ hex_of id
+refusal_text (Kind id actual) = codes "kind" ++ (32 ∷ hex_of id) ++ 32 ∷ kind_name actual
+refusal_text (Decode id) = codes "decode" ++ 32 ∷ hex_of id
+refusal_text (EmptyComponent path) = codes "empty-component" ++ 32 ∷ path
+refusal_text (Filename id kind name) = codes "filename" ++ (32 ∷ hex_of id) ++ (32 ∷ octal_of (mode_of kind)) ++ 32 ∷ name
+refusal_text (Missing id name) = codes "missing" ++ (32 ∷ hex_of id) ++ 32 ∷ name
+refusal_text (Unwritable field) = codes "unwritable" ++ 32 ∷ field_text field
+refusal_text (Cycle name) = codes "cycle" ++ 32 ∷ name
+refusal_text (Depth name) = codes "depth" ++ 32 ∷ name
+refusal_text (MustExist name) = codes "must-exist" ++ 32 ∷ name
+refusal_text (MustNotExist name actual) = codes "must-not-exist" ++ (32 ∷ name) ++ 32 ∷ target_text actual
+refusal_text (OutOfDate name expected actual) = codes "out-of-date" ++ (32 ∷ name) ++ (32 ∷ target_text expected) ++ 32 ∷ target_text actual
+refusal_text (Conflict name other) = codes "conflict" ++ (32 ∷ name) ++ 32 ∷ other
 
--- A reply is a line: `ok` and what was made, or `no` and why not.
-abbrev pub reply_text : Reply → List ℕ
+-- A reply is a line: `ok` and what was made, or `no` and why not. (Ours; docs/SCRIPT.md.)
+unfoldable pub reply_text : Reply → List ℕ
 reply_text (Committed id) = codes "ok " ++ hex_of id ++ 10 ∷ []
 reply_text (Refused refusal) = codes "no " ++ refusal_text refusal ++ 10 ∷ []
 

@@ -2,15 +2,16 @@
 use Rattle.std.specs.Prelude.{◌≡◌, List, [], ◌∷◌, Result, Ok, Err}
 use Rattle.gx_hash.specs.declared.oid.ObjectId.{ObjectId}
 use Rattle.gx_store.specs.State.{StoreState}
-use Rattle.gix.specs.CommitRequest.{CommitRequest}
-use Rattle.gix.specs.CommitEdits.{Commits, Leaves, CommitEditsCauses}
-use Rattle.gix.specs.declared.commit_edits.CommitEditsError.{CommitEditsError}
-use Rattle.gix.specs.declared.commit_edits.CommitEditsError.TheVariants as error
+use Rattle.gix.specs.declared.settings.Settings.{Settings}
+use Rattle.gix.specs.CommitRequest.{CommitRequest, HaveModuleIds}
+use Rattle.gix.specs.CommitEdits.{Commits, Leaves}
+use Rattle.gix.specs.Causes.{CommitEditsCauses}
+use Rattle.gix.specs.declared.error.CommitEditsError.{CommitEditsError}
+use Rattle.gix.specs.declared.error.CommitEditsError.TheVariants as error
 use Rattle.gx_script.specs.declared.request.CommitRequest.{CommitRequest as Asked}
 use Rattle.gx_script.specs.declared.request.Request.{Request}
 use Rattle.gx_script.specs.declared.request.Request.TheVariants.{Commit}
-use Rattle.gx_tool.specs.declared.reply.Refusal.{Refusal}
-use Rattle.gx_tool.specs.declared.reply.Refusal.TheVariants.{Unsupported, EmptyComponent, MustNotExist, Conflict}
+use Rattle.gx_tool.specs.declared.refusal.Refusal.TheVariants.{Unsupported, Find, Kind, Decode, EmptyComponent, Filename, Missing, Unwritable, Cycle, Depth, MustExist, MustNotExist, OutOfDate, Conflict}
 use Rattle.gx_tool.specs.declared.reply.Reply.{Reply}
 use Rattle.gx_tool.specs.declared.reply.Reply.TheVariants.{Committed, Refused}
 use Rattle.gx_tool.specs.declared.execute.ExecuteError.{ExecuteError}
@@ -20,36 +21,55 @@ use Rattle.gx_tool.specs.declared.execute.ExecuteError.TheVariants as no_reply
 abbrev pub call_of : Asked → CommitRequest
 call_of asked = record { committer = asked.committer; author = asked.author; reference = asked.name; message = asked.message; parents = asked.parents; edits = asked.edits }
 
--- the refusal that a reply tells of
-abbrev pub error_of : Refusal → CommitEditsError
-error_of Unsupported = error.Unsupported
-error_of (EmptyComponent path) = error.EmptyPathComponent path
-error_of (MustNotExist name actual) = error.MustNotExist name actual
-error_of (Conflict name other) = error.NameConflict name other
+-- The submodules of a commit name commits. Other forms have none.
+unfoldable pub HasModuleIds : Request → Type 0
+HasModuleIds (Commit asked) = HaveModuleIds asked.edits
+HasModuleIds request = Unit {0}
 
--- what the program makes of the call's answer: each refusal is a reply, but for a store's fault and want of memory
-abbrev pub outcome_of : Result ObjectId CommitEditsError → Result Reply ExecuteError
-outcome_of (Ok id) = Ok (Committed id)
-outcome_of (Err error.Unsupported) = Ok (Refused Unsupported)
-outcome_of (Err (error.EmptyPathComponent path)) = Ok (Refused (EmptyComponent path))
-outcome_of (Err (error.MustNotExist name actual)) = Ok (Refused (MustNotExist name actual))
-outcome_of (Err (error.NameConflict name other)) = Ok (Refused (Conflict name other))
-outcome_of (Err (error.Store fault)) = Err (no_reply.Store fault)
-outcome_of (Err error.NoMemory) = Err no_reply.NoMemory
+-- What is replied to a commit that is refused. A store's fault and want of memory get no reply.
+abbrev pub reply_to_refusal : CommitEditsError → Result Reply ExecuteError
+reply_to_refusal (error.FindExistingObject id) = Ok (Refused (Find id))
+reply_to_refusal (error.ObjectKind id actual) = Ok (Refused (Kind id actual))
+reply_to_refusal (error.Decode id) = Ok (Refused (Decode id))
+reply_to_refusal (error.EmptyPathComponent path) = Ok (Refused (EmptyComponent path))
+reply_to_refusal (error.InvalidFilename filename kind id source) = Ok (Refused (Filename id kind filename))
+reply_to_refusal (error.MissingObject filename kind id) = Ok (Refused (Missing id filename))
+reply_to_refusal (error.WriteObject field) = Ok (Refused (Unwritable field))
+reply_to_refusal (error.Cycle name) = Ok (Refused (Cycle name))
+reply_to_refusal (error.DepthLimitExceeded name) = Ok (Refused (Depth name))
+reply_to_refusal (error.MustExist name) = Ok (Refused (MustExist name))
+reply_to_refusal (error.MustNotExist name actual) = Ok (Refused (MustNotExist name actual))
+reply_to_refusal (error.ReferenceOutOfDate name expected actual) = Ok (Refused (OutOfDate name expected actual))
+reply_to_refusal (error.NameConflict name other) = Ok (Refused (Conflict name other))
+reply_to_refusal (error.Store fault) = Err (no_reply.Store fault)
+reply_to_refusal error.NoMemory = Err no_reply.NoMemory
 
--- From the old state a store may serve the request with the reply and be in the new state: a commit that is accepted is made, and nothing else; one that is refused has a cause, and changes nothing.
-abbrev pub Serves : StoreState → Request → Reply → StoreState → Type 0
-Serves old (Commit asked) (Committed id) new = Commits (call_of asked) old id new
-Serves old (Commit asked) (Refused refusal) new = CommitEditsCauses (call_of asked) old old (error_of refusal) × (new ≡ old)
+abbrev pub reply_to : Result ObjectId CommitEditsError → Result Reply ExecuteError
+reply_to (Ok id) = Ok (Committed id)
+reply_to (Err refusal) = reply_to_refusal refusal
 
--- A request may get no reply for a fault of the store, which has a cause, or for want of memory. Then some of its objects may be stored, and after a fault of a write its reference may be moved.
-abbrev pub Stops : StoreState → Request → StoreState → ExecuteError → Type 0
-Stops old (Commit asked) new (no_reply.Store fault) = CommitEditsCauses (call_of asked) old new (error.Store fault) × Leaves (call_of asked) old new (error.Store fault)
-Stops old (Commit asked) new no_reply.NoMemory = Leaves (call_of asked) old new error.NoMemory
+-- The commit is refused: the reply tells of a refusal whose cause holds, and nothing is changed.
+pub record IsDeclined (settings : Settings) (r : CommitRequest) (old : StoreState) (reply : Reply) (new : StoreState) : Type 0 where
+  pub refusal : CommitEditsError
+  pub told : reply_to_refusal refusal ≡ Ok reply
+  pub cause : CommitEditsCauses settings r old old refusal
+  pub same : new ≡ old
+
+-- From the old state a store may serve the request with the reply and be in the new state: a commit that is accepted is made, and nothing else; one that is refused has a cause, and changes nothing. Any other form is answered as not served yet, and changes nothing. (Ours; docs/SCRIPT.md.)
+unfoldable pub Serves : Settings → StoreState → Request → Reply → StoreState → Type 0
+Serves settings old (Commit asked) (Committed id) new = Commits settings (call_of asked) old id new
+Serves settings old (Commit asked) (Refused refusal) new = IsDeclined settings (call_of asked) old (Refused refusal) new
+Serves settings old request reply new = (reply ≡ Refused Unsupported) × (new ≡ old)
+
+-- A request may get no reply for a fault of the store, which has a cause, or for want of memory. Then some of its objects may be stored, and after a fault of a write its reference may be moved. Only commits ask a store.
+unfoldable pub Stops : Settings → StoreState → Request → StoreState → ExecuteError → Type 0
+Stops settings old (Commit asked) new (no_reply.Store fault) = CommitEditsCauses settings (call_of asked) old new (error.Store fault) × Leaves settings (call_of asked) old new (error.Store fault)
+Stops settings old (Commit asked) new no_reply.NoMemory = Leaves settings (call_of asked) old new error.NoMemory
+Stops settings old request new refusal = ⊥
 
 -- A store may serve these requests with these replies, one after another.
-abbrev pub ServesAll : StoreState → List Request → List Reply → StoreState → Type 0
-ServesAll old [] [] new = new ≡ old
-ServesAll old (request ∷ requests) (reply ∷ replies) new = (mid : StoreState) × Serves old request reply mid × ServesAll mid requests replies new
-ServesAll old [] (reply ∷ replies) new = ⊥
-ServesAll old (request ∷ requests) [] new = ⊥
+unfoldable pub ServesAll : Settings → StoreState → List Request → List Reply → StoreState → Type 0
+ServesAll settings old [] [] new = new ≡ old
+ServesAll settings old (request ∷ requests) (reply ∷ replies) new = (mid : StoreState) × Serves settings old request reply mid × ServesAll settings mid requests replies new
+ServesAll settings old [] (reply ∷ replies) new = ⊥
+ServesAll settings old (request ∷ requests) [] new = ⊥

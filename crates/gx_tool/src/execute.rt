@@ -1,12 +1,13 @@
 //! How a request is run.
 
 ghost use Rattle.std.specs.Prelude.{◌≡◌, IfOk, IfErr};
-ghost use Rattle.gix.specs.Machine.{WhereTold};
+ghost use Rattle.gix.specs.CommitRequest.{HaveModuleIds};
 ghost use Rattle.gix.specs.Repository.{store_of, settings_of};
-ghost use Rattle.gx_tool.specs.Machine.{Step};
-ghost use Rattle.gx_tool.specs.Serving.{Serves, Stops, outcome_of};
+ghost use Rattle.gx_tool.specs.Machine.{IsReply};
+ghost use Rattle.gx_tool.specs.Serving.{HasModuleIds, Stops, reply_to, reply_to_refusal};
 
-use crate::reply::{Refusal, Reply};
+use crate::refusal::Refusal;
+use crate::reply::Reply;
 use gix::{CommitEditsError, Repository};
 use gx_hash::ObjectId;
 use gx_object::Time;
@@ -24,24 +25,54 @@ pub enum ExecuteError {
     NoMemory,
 }
 
+/// The reply that a refused commit gets, or that it gets none.
+fn reply_to_refusal(refusal: CommitEditsError) -> Result<Reply, ExecuteError>
+    ensures { result ≡ reply_to_refusal refusal }
+{
+    let refusal = match refusal {
+        CommitEditsError::FindExistingObject { id } => Refusal::Find { id },
+        CommitEditsError::ObjectKind { id, actual } => Refusal::Kind { id, actual },
+        CommitEditsError::Decode { id } => Refusal::Decode { id },
+        CommitEditsError::EmptyPathComponent { path } => Refusal::EmptyComponent { path },
+        CommitEditsError::InvalidFilename {
+            filename: name,
+            kind,
+            id,
+            source: _,
+        } => Refusal::Filename { id, kind, name },
+        CommitEditsError::MissingObject {
+            filename: name,
+            id,
+            ..
+        } => Refusal::Missing { id, name },
+        CommitEditsError::WriteObject { field } => Refusal::Unwritable { field },
+        CommitEditsError::Cycle { name } => Refusal::Cycle { name },
+        CommitEditsError::DepthLimitExceeded { name } => Refusal::Depth { name },
+        CommitEditsError::MustExist { name } => Refusal::MustExist { name },
+        CommitEditsError::MustNotExist { name, actual } => Refusal::MustNotExist { name, actual },
+        CommitEditsError::ReferenceOutOfDate {
+            name,
+            expected,
+            actual,
+        } => Refusal::OutOfDate {
+            name,
+            expected,
+            actual,
+        },
+        CommitEditsError::NameConflict { name, other } => Refusal::Conflict { name, other },
+        CommitEditsError::Store { what } => return Err(ExecuteError::Store { what }),
+        CommitEditsError::NoMemory => return Err(ExecuteError::NoMemory),
+    };
+    Ok(Reply::Refused(refusal))
+}
+
 /// The reply that a commit gets, or that it gets none.
 fn reply_to(outcome: Result<ObjectId, CommitEditsError>) -> Result<Reply, ExecuteError>
-    ensures { result ≡ outcome_of outcome }
+    ensures { result ≡ reply_to outcome }
 {
     match outcome {
         Ok(id) => Ok(Reply::Committed(id)),
-        Err(CommitEditsError::Unsupported) => Ok(Reply::Refused(Refusal::Unsupported)),
-        Err(CommitEditsError::EmptyPathComponent { path }) => {
-            Ok(Reply::Refused(Refusal::EmptyComponent { path }))
-        }
-        Err(CommitEditsError::MustNotExist { name, actual }) => {
-            Ok(Reply::Refused(Refusal::MustNotExist { name, actual }))
-        }
-        Err(CommitEditsError::NameConflict { name, other }) => {
-            Ok(Reply::Refused(Refusal::Conflict { name, other }))
-        }
-        Err(CommitEditsError::Store { what }) => Err(ExecuteError::Store { what }),
-        Err(CommitEditsError::NoMemory) => Err(ExecuteError::NoMemory),
+        Err(refusal) => reply_to_refusal(refusal),
     }
 }
 
@@ -51,9 +82,9 @@ fn commit<S: Store>(
     repo: &mut Repository<S>,
     asked: &CommitRequest,
 ) -> Result<Reply, ExecuteError>
-    ensures step { IfOk result (λ reply. Serves (S.state (store_of repo.old)) (Request.Commit asked.now) reply (S.state (store_of repo.new))) }
-    ensures machine { IfOk result (λ reply. WhereTold (λ old new. Step old (Request.Commit asked.now) reply new) (S.state (store_of repo.old)) (S.state (store_of repo.new))) }
-    ensures failed { IfErr result (Stops (S.state (store_of repo.old)) (Request.Commit asked.now) (S.state (store_of repo.new))) }
+    requires { HaveModuleIds asked.now.edits }
+    ensures reply { IfOk result (λ reply. IsReply (settings_of repo.old) (S.state (store_of repo.old)) (Request.Commit asked.now) reply (S.state (store_of repo.new))) }
+    ensures stops { IfErr result (Stops (settings_of repo.old) (S.state (store_of repo.old)) (Request.Commit asked.now) (S.state (store_of repo.new))) }
     ensures settings { settings_of repo.new ≡ settings_of repo.old }
 {
     reply_to(repo.commit_edits(
@@ -74,12 +105,13 @@ pub fn execute<S: Store>(
     _now: Time,
     request: &Request,
 ) -> Result<Reply, ExecuteError>
-    ensures step { IfOk result (λ reply. Serves (S.state (store_of repo.old)) request.now reply (S.state (store_of repo.new))) }
-    ensures machine { IfOk result (λ reply. WhereTold (λ old new. Step old request.now reply new) (S.state (store_of repo.old)) (S.state (store_of repo.new))) }
-    ensures failed { IfErr result (Stops (S.state (store_of repo.old)) request.now (S.state (store_of repo.new))) }
+    requires { HasModuleIds request.now }
+    ensures reply { IfOk result (λ reply. IsReply (settings_of repo.old) (S.state (store_of repo.old)) request.now reply (S.state (store_of repo.new))) }
+    ensures stops { IfErr result (Stops (settings_of repo.old) (S.state (store_of repo.old)) request.now (S.state (store_of repo.new))) }
     ensures settings { settings_of repo.new ≡ settings_of repo.old }
 {
     match request {
         Request::Commit(asked) => commit(alloc, repo, asked),
+        _ => Ok(Reply::Refused(Refusal::Unsupported)),
     }
 }

@@ -1,8 +1,12 @@
-//! What the end of a run says of its script, where the source tells what is left. The functions do nothing.
+//! What the end of a run says of its script, where the source tells what is left. The functions do nothing but ask laws
+//! of the crates below.
 
 ghost use Rattle.std.specs.Prelude.{◌≡◌, ◌≤◌, ◌⊎◌, ◌↔◌, ℕ, ◌+◌, List, [], ◌++◌, length, Some};
+ghost use Rattle.gix.specs.Machine.{state_of};
+ghost use Rattle.gix.specs.View.{State};
 ghost use Rattle.gx_script.specs.declared.request.Request.{Request};
 ghost use Rattle.gx_script.specs.Script.{IsScript};
+ghost use Rattle.gx_tool.specs.Completeness.{IsFaultless, AreValid};
 ghost use Rattle.gx_tool.specs.Course.{Moment, Answers};
 
 /// The number is 8 exactly where a byte past the limit was taken.
@@ -20,3 +24,24 @@ pub fn zero_and_one_are_a_whole_script()
 pub fn a_script_is_not_malformed()
     ensures { (limit : ℕ) (start now : Moment) (number : ℕ) (bytes : List ℕ) (requests : List Request) → Answers limit start now number → start.left ≡ Some bytes → IsScript start.store.hash bytes requests → number ≡ 2 → ⊥ }
 {}
+
+/// A script within the limit is answered whole, unless memory runs out, where nothing fails.
+pub fn a_script_is_answered()
+    ensures { (limit : ℕ) (start now : Moment) (number : ℕ) (bytes : List ℕ) (requests : List Request) → Answers limit start now number → IsFaultless start now
+        → start.left ≡ Some bytes → IsScript start.store.hash bytes requests → length bytes ≤ limit → (number ≡ 0) ⊎ ((number ≡ 1) ⊎ (number ≡ 5)) }
+{}
+
+/// Other bytes within the limit are malformed, unless memory runs out, where nothing fails.
+pub fn other_bytes_are_malformed()
+    ensures { (limit : ℕ) (start now : Moment) (number : ℕ) (bytes : List ℕ) → Answers limit start now number → IsFaultless start now
+        → start.left ≡ Some bytes → ((requests : List Request) → IsScript start.store.hash bytes requests → ⊥) → length bytes ≤ limit → (number ≡ 2) ⊎ (number ≡ 5) }
+{}
+
+/// A script within the limit of commits that are valid, each in its own state of the run, gets an `ok` for each, unless
+/// memory runs out, where nothing fails and the store tells its state.
+pub fn valid_commits_are_accepted()
+    ensures { (limit : ℕ) (start now : Moment) (number : ℕ) (bytes : List ℕ) (requests : List Request) (state : State) → Answers limit start now number → IsFaultless start now
+        → start.left ≡ Some bytes → IsScript start.store.hash bytes requests → length bytes ≤ limit → state_of start.store ≡ Some state → AreValid start.settings state requests → (number ≡ 0) ⊎ (number ≡ 5) }
+{
+    gix::laws::valid_is_made();
+}

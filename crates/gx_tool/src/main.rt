@@ -3,8 +3,7 @@
 
 mod execute;
 mod laws;
-#[cfg(test)]
-mod plain;
+mod refusal;
 mod reply;
 mod run;
 mod status;
@@ -21,15 +20,16 @@ use std::process::ExitCode;
 use std::time::{SystemTime, UNIX_EPOCH};
 
 /// What `--help` prints, and standard error hears of a faulty command line.
-const USAGE: &str = "usage: gx_tool --memory apply < SCRIPT
+const USAGE: &str = "usage: gx_tool --memory|--memory-sha256 apply < SCRIPT
 
 Applies a script of requests from standard input to an empty repository in memory,
 and writes a reply for each to standard output.
 
-  --memory    the store: in memory, with SHA-1 ids
-  apply       applies the script
-  --help      prints this text
-  --version   prints the version
+  --memory         the store: in memory, with SHA-1 ids
+  --memory-sha256  the same, with SHA-256 ids
+  apply            applies the script
+  --help           prints this text
+  --version        prints the version
 
 status  0  each request of the script got an `ok`
         1  all requests of the script were replied to, one or more with `no`
@@ -45,7 +45,7 @@ status  0  each request of the script got an `ok`
 
 const VERSION: &str = "gx_tool 0.1.0";
 
-/// The statuses that are none of a run.
+/// The statuses that `main` gives itself; the first two are a run's as well.
 const OUT_OF_MEMORY: u8 = 5;
 
 const WRITE_FAULT: u8 = 4;
@@ -79,12 +79,28 @@ fn serve(rt: &HostRuntime, words: &[String]) -> u8 {
     match words {
         [word] if word.as_str() == "--help" => printed(print!(rt; "{USAGE}")),
         [word] if word.as_str() == "--version" => printed(println!(rt; "{VERSION}")),
-        [store, ..] if store.as_str() != "--memory" => {
-            let _heard = eprintln!(rt; "not a repository");
-            NOT_A_REPOSITORY
-        }
-        _ => apply(rt, words),
+        [] => apply(rt, words, HashKind::Sha1),
+        [store, ..] => match hash_of(store.as_str()) {
+            Some(hash) => apply(rt, words, hash),
+            None => not_a_repository(rt),
+        },
     }
+}
+
+/// The kind of ids in a store in memory, where the word asks for one.
+fn hash_of(store: &str) -> Option<HashKind> {
+    if store == "--memory" {
+        return Some(HashKind::Sha1);
+    }
+    if store == "--memory-sha256" {
+        return Some(HashKind::Sha256);
+    }
+    None
+}
+
+fn not_a_repository(rt: &HostRuntime) -> u8 {
+    let _heard = eprintln!(rt; "not a repository");
+    NOT_A_REPOSITORY
 }
 
 fn printed(outcome: io::Result<()>) -> u8 {
@@ -100,9 +116,9 @@ fn bad_words(rt: &HostRuntime) -> u8 {
 }
 
 /// Runs the words on an empty repository in memory.
-fn apply(rt: &HostRuntime, words: &[String]) -> u8 {
+fn apply(rt: &HostRuntime, words: &[String], hash: HashKind) -> u8 {
     let alloc = rt.alloc();
-    let store = match Memory::new(alloc, HashKind::Sha1) {
+    let store = match Memory::new(alloc, hash) {
         Ok(store) => store,
         Err(NoMemory) => return OUT_OF_MEMORY,
     };

@@ -1,21 +1,11 @@
 //! Replies, and how they are printed.
 
-ghost use Rattle.std.specs.Prelude.{◌≡◌, ◌++◌, ◌∷◌, [], IfOk, OnOk};
-ghost use Rattle.gx_tool.specs.Reply.{target_text, refusal_text, reply_text, is_accepted};
+ghost use Rattle.std.specs.Prelude.{◌≡◌, ◌++◌, IfOk, OnOk};
+ghost use Rattle.gx_tool.specs.Reply.{reply_text, is_accepted};
 
+use crate::refusal::{Refusal, push_refusal};
 use gx_hash::{Bytes, NoMemory, ObjectId};
-use gx_rules::FullName;
-use gx_store::Target;
 use std::alloc::Global;
-
-/// Why a request was refused.
-#[derive(Debug, Drop)]
-pub enum Refusal {
-    Unsupported,
-    EmptyComponent { path: Bytes },
-    MustNotExist { name: FullName, actual: Target },
-    Conflict { name: FullName, other: FullName },
-}
 
 /// The answer to a request.
 #[derive(Debug, Drop)]
@@ -36,49 +26,7 @@ impl Reply {
     }
 }
 
-fn push_target(out: &mut Vec<u8>, target: &Target) -> Result<(), NoMemory>
-    ensures ok { OnOk result (out.new.items ≡ out.old.items ++ target_text target.now) }
-{
-    match target {
-        Target::Object(id) => id.push_hex(out),
-        Target::Symbolic(name) => {
-            out.push(b'@')?;
-            out.extend_from_slice(name.as_slice())?;
-            Ok(())
-        }
-    }
-}
-
-fn push_word_and_name(out: &mut Vec<u8>, word: &[u8], name: &FullName) -> Result<(), NoMemory>
-    ensures ok { OnOk result (out.new.items ≡ out.old.items ++ (word.now ++ name.now ++ 32 ∷ [])) }
-{
-    out.extend_from_slice(word)?;
-    out.extend_from_slice(name.as_slice())?;
-    out.push(b' ')?;
-    Ok(())
-}
-
-fn push_refusal(out: &mut Vec<u8>, refusal: &Refusal) -> Result<(), NoMemory>
-    ensures ok { OnOk result (out.new.items ≡ out.old.items ++ refusal_text refusal.now) }
-{
-    match refusal {
-        Refusal::Unsupported => out.extend_from_slice(b"unsupported")?,
-        Refusal::EmptyComponent { path } => {
-            out.extend_from_slice(b"empty-component ")?;
-            out.extend_from_slice(path.as_slice())?;
-        }
-        Refusal::MustNotExist { name, actual } => {
-            push_word_and_name(out, b"must-not-exist ", name)?;
-            push_target(out, actual)?;
-        }
-        Refusal::Conflict { name, other } => {
-            push_word_and_name(out, b"conflict ", name)?;
-            out.extend_from_slice(other.as_slice())?;
-        }
-    }
-    Ok(())
-}
-
+#[tactic(auto, unfolding(crate::specs::Reply::reply_text))]
 fn push_reply(out: &mut Vec<u8>, reply: &Reply) -> Result<(), NoMemory>
     ensures ok { OnOk result (out.new.items ≡ out.old.items ++ reply_text reply.now) }
 {

@@ -6,7 +6,8 @@ ghost use Rattle.gx_edit.specs.PathMap.{put, dropped};
 ghost use Rattle.gx_edit.specs.PathList.{map_of, has_empty_name};
 ghost use Rattle.gx_edit.specs.PathTexts.{rows_of, leaf_at_text, is_below, without};
 
-use crate::{Leaf, split_first_name};
+use crate::Leaf;
+use crate::path::split_first_name;
 use gx_hash::{Bytes, NoMemory};
 use std::alloc::Global;
 use std::collections::BTreeMap;

@@ -3,7 +3,7 @@ ghost use Rattle.std.specs.Prelude.{◌≡◌, ◌≢◌, ◌∷◌, ◌++◌, [
 ghost use Rattle.gx_edit.specs.Path.{IsName, components, path_eq, leads_to};
 ghost use Rattle.gx_edit.specs.CanonicalTree.{IsBelow};
 
-use crate::split_first_name;
+use crate::path::split_first_name;
 use gx_hash::{Bytes, NoMemory};
 use std::alloc::Global;
 use std::cmp::Ordering;

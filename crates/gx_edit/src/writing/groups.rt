@@ -1,10 +1,10 @@
 // The rows of a map that stand in one directory.
 ghost use Rattle.std.specs.Prelude.{◌≡◌, ◌≤◌, ◌<◌, length, drop};
-ghost use Rattle.std.specs.List.{prefix_len};
 ghost use Rattle.gx_edit.specs.Path.{components};
 ghost use Rattle.gx_edit.specs.Planning.{goes_into, rows_at, run, Reach, IsFrontGroup};
 
-use crate::{Leaf, split_first_name};
+use crate::Leaf;
+use crate::path::split_first_name;
 
 /// A path of a map, and the leaf that stands there.
 #[derive(Drop)]

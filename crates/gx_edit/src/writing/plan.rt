@@ -9,7 +9,7 @@ ghost use Rattle.gx_edit.specs.CanonicalTree.{Directory, IsCanonical};
 ghost use Rattle.gx_edit.specs.Planning.{leaves_of, rows_at, made, planned, with_tree, with_entry, IsPlan};
 
 use super::groups::{Row, first_group, rest_of};
-use crate::split_first_name;
+use crate::path::split_first_name;
 use gx_hash::{Bytes, HashKind, NoMemory, ObjectId, object_id};
 use gx_object::{Entry, EntryKind, EntryMode, Kind, push_entry};
 use std::alloc::Global;

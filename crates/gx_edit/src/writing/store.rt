@@ -16,7 +16,7 @@ use gx_rules::Protect;
 use gx_store::{Objects, StoreError};
 use std::alloc::Global;
 
-/// Stores planned trees in order. After an error the first of them are stored.
+/// Stores planned trees in order. After an error the first of them are stored, and one at least is left.
 pub(super) fn store_trees<S: Objects>(
     alloc: Global,
     store: &mut S,
@@ -24,7 +24,7 @@ pub(super) fn store_trees<S: Objects>(
 ) -> Result<(), StoreError>
     requires { ArePlanned (S.state store.old).hash trees.now }
     ensures ok { OnOk result (Becomes (all_stored (objects_of trees.now) (S.state store.old)) (S.state store.new)) }
-    ensures err { OnErr result ((n : ℕ) × Becomes (all_stored (take n (objects_of trees.now)) (S.state store.old)) (S.state store.new)) }
+    ensures err { OnErr result ((n : ℕ) × (n < length trees.now) × Becomes (all_stored (take n (objects_of trees.now)) (S.state store.old)) (S.state store.new)) }
     ensures fault { IfFault result (HasCause (S.state store.old) (S.state store.new)) }
 {
     for tree in trees {

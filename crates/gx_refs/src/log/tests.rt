@@ -89,3 +89,27 @@ fn a_fault_tells_the_name(rt: HostRuntime) -> Result<(), Fail> {
     assert!(rt; answer == Err(fault));
     Ok(())
 }
+
+/// Whether a line is due, for a name that can't be read.
+fn is_due_for_broken(
+    alloc: Global,
+    mode: WriteReflog,
+    name: &[u8],
+    force: bool,
+) -> Result<bool, StoreError> {
+    let mut store = Memory::new(alloc, HashKind::Sha1)?;
+    store.break_name(name_of(alloc, name)?)?;
+    let name = name_of(alloc, name)?;
+    is_due(alloc, &store, mode, &name, force)
+}
+
+#[test]
+fn no_fault_comes_where_the_log_decides_nothing(rt: HostRuntime) -> Result<(), Fail> {
+    let alloc = rt.alloc();
+    let tag = b"refs/tags/v1";
+    assert!(rt; is_due_for_broken(alloc, WriteReflog::Normal, tag, true)?);
+    assert!(rt; is_due_for_broken(alloc, WriteReflog::Normal, b"HEAD", false)?);
+    assert!(rt; is_due_for_broken(alloc, WriteReflog::Always, tag, false)?);
+    assert!(rt; !is_due_for_broken(alloc, WriteReflog::Disable, tag, false)?);
+    Ok(())
+}

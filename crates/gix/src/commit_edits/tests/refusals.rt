@@ -1,177 +1,130 @@
+ghost use Rattle.gix.specs.CommitRequest.{HaveModuleIds};
+
 use super::*;
 
-/// Whether a new repository answers the request so, and is new as before.
-fn refuses(
+/// The answer to the first commit of a history.
+fn begin(
     alloc: Global,
-    committer: &Signature,
-    author: &Signature,
-    reference: &[u8],
-    parents: &[ObjectId],
+    repository: &mut Repository<Memory>,
     edits: &[PathEdit],
-    wanted: &[u8],
-) -> Result<bool, StoreError> {
+) -> Result<Vec<u8>, NoMemory>
+    requires { HaveModuleIds edits.now }
+{
+    answer(alloc, repository, HEAD, b"c1\n", &NO_PARENT_IDS, edits)
+}
+
+/// No refusal moves the branch, or the last request would be refused too.
+#[test]
+fn names_that_no_tree_may_have_are_refused(rt: HostRuntime) -> Result<(), Fail> {
+    let alloc = rt.alloc();
     let mut repository = new_repository(alloc, HashKind::Sha1)?;
-    let reference = name_of(alloc, reference)?;
-    let answer = repository.commit_edits(
-        alloc, committer, author, &reference, b"c1\n", parents, edits,
-    );
-    let store = repository.store();
-    Ok(
-        says(alloc, &answer, wanted)?
-            && !is_stored(alloc, store, BLOB)?
-            && has_new_references(alloc, store)?,
-    )
-}
-
-/// Whether it answers edits on the main branch so.
-fn refuses_edits(alloc: Global, edits: &[PathEdit], wanted: &[u8]) -> Result<bool, StoreError> {
-    let who = person(alloc, b"A")?;
-    refuses(alloc, &who, &who, MAIN, &[], edits, wanted)
-}
-
-/// Whether it answers a file at the path so.
-fn refuses_path(alloc: Global, path: &[u8], wanted: &[u8]) -> Result<bool, StoreError> {
-    let edits = [file(alloc, path, b"hello world", false)?];
-    refuses_edits(alloc, &edits, wanted)
-}
-
-#[test]
-fn a_path_with_an_empty_name_is_told(rt: HostRuntime) -> Result<(), Fail> {
-    let alloc = rt.alloc();
-    assert!(rt; refuses_path(alloc, b"", b"empty ")?);
-    assert!(rt; refuses_path(alloc, b"a//b", b"empty a//b")?);
-    assert!(rt; refuses_path(alloc, b"/a", b"empty /a")?);
-    assert!(rt; refuses_path(alloc, b"a/", b"empty a/")?);
-    Ok(())
-}
-
-#[test]
-fn the_first_of_such_paths_is_told(rt: HostRuntime) -> Result<(), Fail> {
-    let alloc = rt.alloc();
-    let edits = [
-        file(alloc, b"a", b"hello world", false)?,
-        file(alloc, b"b//c", b"hello world", false)?,
-        file(alloc, b"/d", b"hello world", false)?,
+    let rows: [(&[u8], &[u8]); 7] = [
+        (b"", b"empty "),
+        (b"a//b", b"empty a//b"),
+        (b"/a", b"empty /a"),
+        (b"a/", b"empty a/"),
+        (b".GIT/x", b"filename .GIT"),
+        (b"a\0b", b"unwritable file-name"),
+        (b"aux.c", b"ok 1dd756e2410f6b4bff5779b0ac70b3813bd3c0d5"),
     ];
-    assert!(rt; refuses_edits(alloc, &edits, b"empty b//c")?);
+    for (path, wanted) in rows {
+        let edits = [file(alloc, path, b"x")?];
+        assert!(rt; begin(alloc, &mut repository, &edits)?.as_slice() == wanted);
+    }
     Ok(())
 }
 
 #[test]
-fn a_path_of_another_kind_is_unsupported(rt: HostRuntime) -> Result<(), Fail> {
-    let alloc = rt.alloc();
-    assert!(rt; refuses_path(alloc, b"a/b", b"unsupported")?);
-    assert!(rt; refuses_path(alloc, b".a", b"unsupported")?);
-    assert!(rt; refuses_path(alloc, b"a b//c", b"unsupported")?);
-    Ok(())
-}
-
-#[test]
-fn an_edit_of_another_kind_is_unsupported(rt: HostRuntime) -> Result<(), Fail> {
-    let alloc = rt.alloc();
-    let link = PathEdit::Link {
-        path: Bytes::from_slice(alloc, b"a")?,
-        bytes: Bytes::from_slice(alloc, b"hello world")?,
-    };
-    assert!(rt; refuses_edits(alloc, &[link], b"unsupported")?);
-    let module = PathEdit::Module {
-        path: Bytes::from_slice(alloc, b"a")?,
-        id: HashKind::Sha1.empty_blob(),
-    };
-    assert!(rt; refuses_edits(alloc, &[module], b"unsupported")?);
-    let removal = PathEdit::Remove {
-        path: Bytes::from_slice(alloc, b"a")?,
-    };
-    assert!(rt; refuses_edits(alloc, &[removal], b"unsupported")?);
-    Ok(())
-}
-
-// The empty path below would be told if the rest of the request were served.
-
-#[test]
-fn head_and_parents_are_unsupported(rt: HostRuntime) -> Result<(), Fail> {
-    let alloc = rt.alloc();
-    let who = person(alloc, b"A")?;
-    let edits = [file(alloc, b"", b"hello world", false)?];
-    assert!(rt; refuses(alloc, &who, &who, b"HEAD", &[], &edits, b"unsupported")?);
-    let parents = [HashKind::Sha1.empty_blob()];
-    assert!(rt; refuses(alloc, &who, &who, MAIN, &parents, &edits, b"unsupported")?);
-    Ok(())
-}
-
-#[test]
-fn an_identity_that_cannot_be_written_is_unsupported(rt: HostRuntime) -> Result<(), Fail> {
-    let alloc = rt.alloc();
-    let who = person(alloc, b"A")?;
-    let other = person(alloc, b"A>")?;
-    let edits = [file(alloc, b"", b"hello world", false)?];
-    assert!(rt; refuses(alloc, &who, &other, MAIN, &[], &edits, b"unsupported")?);
-    assert!(rt; refuses(alloc, &other, &who, MAIN, &[], &edits, b"unsupported")?);
-    Ok(())
-}
-
-/// A store in which the reference is symbolic to the main branch.
-fn with_symbolic(alloc: Global, reference: &[u8]) -> Result<Memory, StoreError> {
-    let mut store = Memory::new(alloc, HashKind::Sha1)?;
-    let changes = [RefChange {
-        name: name_of(alloc, reference)?,
-        target: TargetChange::Set(Target::Symbolic(name_of(alloc, MAIN)?)),
-        log: LogAct::Keep,
-    }];
-    store.apply(alloc, &changes)?;
-    Ok(store)
-}
-
-#[test]
-fn a_symbolic_reference_is_unsupported(rt: HostRuntime) -> Result<(), Fail> {
-    let alloc = rt.alloc();
-    let side = b"refs/heads/side".as_slice();
-    let mut repository = Repository::new(with_symbolic(alloc, side)?, Settings::new());
-    let edits = [file(alloc, b"a/", b"hello world", false)?];
-    let answer = commit(alloc, &mut repository, side, &edits);
-    assert!(rt; says(alloc, &answer, b"unsupported")?);
-    let store = repository.store();
-    let name = name_of(alloc, side)?;
-    assert!(rt; is_at(alloc, store, &name, MAIN)?);
-    assert!(rt; !store.log_exists(alloc, &name)?);
-    assert!(rt; !is_stored(alloc, store, BLOB)?);
-    Ok(())
-}
-
-#[test]
-fn a_reference_that_is_there_is_not_made_again(rt: HostRuntime) -> Result<(), Fail> {
+fn a_link_must_not_be_named_as_git_s_files(rt: HostRuntime) -> Result<(), Fail> {
     let alloc = rt.alloc();
     let mut repository = new_repository(alloc, HashKind::Sha1)?;
-    commit_hello(alloc, &mut repository, MAIN)?;
-    let again = commit_hello(alloc, &mut repository, MAIN);
-    let wanted = b"exists refs/heads/main d432cc22925b1fddcaa9fdf18c688bd7411e65ed";
-    assert!(rt; says(alloc, &again, wanted)?);
-    assert!(rt; has_first_commit(alloc, repository.store())?);
+    let edits = [link(alloc, b".gitmodules", b"x")?];
+    let refused = begin(alloc, &mut repository, &edits)?;
+    assert!(rt; refused.as_slice() == b"filename .gitmodules".as_slice());
     Ok(())
 }
 
-#[test]
-fn a_reference_in_the_way_is_told(rt: HostRuntime) -> Result<(), Fail> {
-    let alloc = rt.alloc();
+/// The answer to an empty commit whose author stands this far from Greenwich.
+fn by_far_author(alloc: Global, offset: i32) -> Result<Vec<u8>, NoMemory> {
     let mut repository = new_repository(alloc, HashKind::Sha1)?;
-    commit_hello(alloc, &mut repository, MAIN)?;
-    let below = commit_hello(alloc, &mut repository, b"refs/heads/main/b");
-    assert!(rt; says(alloc, &below, b"conflict refs/heads/main/b refs/heads/main")?);
-    let above = commit_hello(alloc, &mut repository, b"refs/heads");
-    assert!(rt; says(alloc, &above, b"conflict refs/heads refs/heads/main")?);
-    assert!(rt; has_first_commit(alloc, repository.store())?);
-    Ok(())
+    let committer = person(alloc, 0)?;
+    let author = person(alloc, offset)?;
+    let head = name_of(alloc, HEAD)?;
+    let message = b"c1\n";
+    let made = repository.commit_edits(
+        alloc,
+        &committer,
+        &author,
+        &head,
+        message,
+        &NO_PARENT_IDS,
+        &[],
+    );
+    said(alloc, &made)
 }
 
 #[test]
-fn an_empty_name_is_told_before_what_stands_in_the_way(rt: HostRuntime) -> Result<(), Fail> {
+fn an_offset_of_a_hundred_hours_is_refused(rt: HostRuntime) -> Result<(), Fail> {
+    let alloc = rt.alloc();
+    let refused = by_far_author(alloc, 360_000)?;
+    assert!(rt; refused.as_slice() == b"unwritable author-offset".as_slice());
+    let made = by_far_author(alloc, 359_999)?;
+    assert!(rt; made.as_slice() == b"ok b3d51a0758a161869c2041bc67290568a0967bde".as_slice());
+    Ok(())
+}
+
+/// Equal requests, without a parent and with one.
+#[test]
+fn a_reference_has_to_name_the_first_parent(rt: HostRuntime) -> Result<(), Fail> {
+    let alloc = rt.alloc();
+    let mut repository = with_first(alloc)?;
+    let twice = begin(alloc, &mut repository, &[])?;
+    let there: &[u8] = b"must-not-exist refs/heads/main c8416067bfa8cd918bed5984144e5d48f2404406";
+    assert!(rt; twice.as_slice() == there);
+    let first = [ObjectId::from_hex(FIRST)?];
+    let made = answer(alloc, &mut repository, HEAD, b"c2\n", &first, &[])?;
+    assert!(rt; made.as_slice() == b"ok fac66c64b2ba43f7284051fc457e60338a727871".as_slice());
+    let late = answer(alloc, &mut repository, HEAD, b"c2\n", &first, &[])?;
+    let moved: &[u8] =
+        b"out-of-date refs/heads/main c8416067bfa8cd918bed5984144e5d48f2404406 fac66c64b2ba43f7284051fc457e60338a727871";
+    assert!(rt; late.as_slice() == moved);
+    Ok(())
+}
+
+/// With a parent, `HEAD` alone has to be there.
+#[test]
+fn head_must_exist_for_a_parent(rt: HostRuntime) -> Result<(), Fail> {
     let alloc = rt.alloc();
     let mut repository = new_repository(alloc, HashKind::Sha1)?;
-    commit_hello(alloc, &mut repository, MAIN)?;
-    let edits = [file(alloc, b"a/", b"x\n", false)?];
-    let there = commit(alloc, &mut repository, MAIN, &edits);
-    assert!(rt; says(alloc, &there, b"empty a/")?);
-    let below = commit(alloc, &mut repository, b"refs/heads/main/b", &edits);
-    assert!(rt; says(alloc, &below, b"empty a/")?);
+    let root = answer(
+        alloc,
+        &mut repository,
+        b"refs/heads/a",
+        b"c2\n",
+        &NO_PARENT_IDS,
+        &[],
+    )?;
+    assert!(rt; root.as_slice() == b"ok 726c543971a2faccb38c8357e483c5aa1bd88228".as_slice());
+    let parent = [ObjectId::from_hex(EMPTY)?];
+    let refused = answer(alloc, &mut repository, HEAD, b"c3\n", &parent, &[])?;
+    assert!(rt; refused.as_slice() == b"must-exist refs/heads/main".as_slice());
+    let below = answer(
+        alloc,
+        &mut repository,
+        b"refs/heads/a/b",
+        b"c3\n",
+        &parent,
+        &[],
+    )?;
+    assert!(rt; below.as_slice() == b"conflict refs/heads/a/b refs/heads/a".as_slice());
+    let beside = answer(
+        alloc,
+        &mut repository,
+        b"refs/heads/ab",
+        b"c3\n",
+        &parent,
+        &[],
+    )?;
+    assert!(rt; beside.as_slice() == b"ok 5aea71aa68976753c2a6c4de96391d5d1da3b799".as_slice());
     Ok(())
 }

@@ -5,12 +5,12 @@ use Rattle.gx_edit.specs.Path.{components, path_eq}
 use Rattle.gx_edit.specs.OpenTree.{IsOneOf}
 use Rattle.gx_edit.specs.declared.stored_tree.open_tree.OpenTree.{OpenTree}
 use Rattle.gx_edit.specs.PathList.{map_of}
-use Rattle.gx_edit.specs.SharedIds.{HasIdsOf}
+use Rattle.gx_edit.specs.SharedIds.{HasIdsOf, HasNoNullId}
 use Rattle.gx_edit.specs.PathTexts.{rows_of, rows_in}
 use Rattle.gx_edit.specs.ReadMapCauses.IsAtOrBelow.{here}
 use Rattle.gx_edit.proofs.EntryOrder.{told_all}
 use Rattle.gx_edit.proofs.ReadingLemmas.{at_root, at_file, at_sub, at_closed, at_end, represents, IsRead}
-use Rattle.gx_edit.proofs.ReadMapLemmas.{is_map, has_ids}
+use Rattle.gx_edit.proofs.ReadMapLemmas.{is_map, has_ids, no_null}
 use Rattle.gx_edit.proofs.CauseLemmas.{opened_cause, reached_next, refused_cycle, refused_twice, refused_empty}
 use Rattle.gx_edit.proofs.WeightLemmas.{weigh, weigh_file, weigh_close, weigh_open}
 use Rattle.gx_edit.proofs.stored_tree.read_map.Goals as goal
@@ -131,3 +131,9 @@ returns-in-None-clause-ids g c =
     let s = g.S.Meanings.state c.args.store.now in
     let r = at_end s.hash s.content c.loop-entry.levels.items c.loop-entry.tree c.loop-entry.path.items c.args.root (map_of (rows_of c.loop-entry.leaves)) (no_levels c.loop-entry.levels.items (sym c.loop-entry.levels.ok.0 ∙ c.in-None.ensures.cases.0)) (omega (arith, c.in_default.ensures.lookup.3, ap length c.deref.ensures.value)) c.loop-entry.invariant in
     subst (λ rows. HasIdsOf s.hash (map_of rows)) (sym c.from_leaves.ensures) (has_ids s.hash r.directory (map_of (rows_of c.loop-entry.leaves)) r.canonical r.ids r.look)
+
+pub returns-in-None-clause-own : goal.returns-in-None-clause-own
+returns-in-None-clause-own g c =
+    let s = g.S.Meanings.state c.args.store.now in
+    let r = at_end s.hash s.content c.loop-entry.levels.items c.loop-entry.tree c.loop-entry.path.items c.args.root (map_of (rows_of c.loop-entry.leaves)) (no_levels c.loop-entry.levels.items (sym c.loop-entry.levels.ok.0 ∙ c.in-None.ensures.cases.0)) (omega (arith, c.in_default.ensures.lookup.3, ap length c.deref.ensures.value)) c.loop-entry.invariant in
+    subst (λ rows. HasNoNullId s.hash (map_of rows)) (sym c.from_leaves.ensures) (no_null s.hash r.directory (map_of (rows_of c.loop-entry.leaves)) r.canonical r.ids r.look)

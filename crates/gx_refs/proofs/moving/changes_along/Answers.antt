@@ -1,4 +1,4 @@
-use Rattle.std.proofs.Common.{arith, rules, ◌∙◌, ◌≡◌, sym, ap, subst, take, length, ◌-◌}
+use Rattle.std.proofs.Common.{arith, subst, take, length, ◌-◌}
 use Rattle.std.proofs.lemmas.Result.{err_from_is_err_and}
 use Rattle.std.proofs.lemmas.List.{take_all}
 use Rattle.gx_refs.proofs.MovingLemmas.{AreKept, one_kept, moves, moves_along, fault_at, fault_before, parted}
@@ -8,7 +8,7 @@ pub returns-in_err-change-clause-fault : goal.returns-in_err-change-clause-fault
 returns-in_err-change-clause-fault g c =
     let p = err_from_is_err_and c.from_residual.result c.from_residual.ensures.1 in
     let parts = parted c.args.names.now c.end-item.result c.in-len1-up.len_at_least c.end-item.is in
-    rw (p.1, p.2) (fault_before (g.S.Meanings.state c.args.store.now) c.args.names.now c.loop-name.name-index c.name-item.result c.end-item.result c.in_err-change.field-0.0 parts c.loop-name-test.true c.name-item.is c.in_err-change.ensures.fault)
+    rw (p.1, p.2) (fault_before (g.S.Meanings.state c.args.store.now) c.args.mode c.args.names.now c.loop-name.name-index c.name-item.result c.end-item.result c.in_err-change.field-0.0 parts c.loop-name-test.true c.name-item.is c.in_err-change.ensures.fault)
 
 pub loop-name-preserved : goal.loop-name-preserved
 loop-name-preserved g c =
@@ -18,7 +18,7 @@ pub returns-in_err-last-clause-fault : goal.returns-in_err-last-clause-fault
 returns-in_err-last-clause-fault g c =
     let p = err_from_is_err_and c.from_residual-in_err-last.result c.from_residual-in_err-last.ensures.1 in
     let parts = parted c.args.names.now c.end-item.result c.in-len1-up.len_at_least c.end-item.is in
-    rw (p.1, p.2) (fault_at (g.S.Meanings.state c.args.store.now) c.end-item.result _ _ c.args.names.now c.in_err-last.field-0.0 parts c.in_err-last.ensures.fault)
+    rw (p.1, p.2) (fault_at (g.S.Meanings.state c.args.store.now) c.args.mode c.end-item.result _ _ c.args.names.now c.in_err-last.field-0.0 parts c.in_err-last.ensures.fault)
 
 pub returns-clause-moved : goal.returns-clause-moved
 returns-clause-moved g c = λ before end is.

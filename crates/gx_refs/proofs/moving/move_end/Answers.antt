@@ -1,4 +1,3 @@
-use Rattle.std.proofs.Common.{◌≡◌, ◌∙◌, sym}
 use Rattle.std.proofs.lemmas.Result.{IfOk-weaker}
 use Rattle.gx_refs.proofs.MovingLemmas.{distinct_along, kinds_along, line_of_kind}
 use Rattle.gx_refs.proofs.moving.move_end.Goals as goal

@@ -1,5 +1,4 @@
-use Rattle.std.proofs.Common.{arith, ◌∙◌, sym, ap, subst, length, Some, IfSome}
-use Rattle.std.specs.FinMap.{get}
+use Rattle.std.proofs.Common.{arith, ◌∙◌, sym, ap, length}
 use Rattle.gx_refs.specs.Chain.{is_among}
 use Rattle.gx_refs.proofs.ChainLemmas.{followed_more}
 use Rattle.gx_refs.proofs.resolving.resolve.Goals as goal

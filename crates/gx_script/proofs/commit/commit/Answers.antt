@@ -1,45 +1,33 @@
-use Rattle.std.proofs.Common.{arith, length, ◌≡◌, ◌∙◌}
+use Rattle.std.proofs.Common.{refl, arith}
 use Rattle.std.proofs.lemmas.Result.{err_from_is_err_and}
-use Rattle.gx_script.proofs.CommitLemmas.{change_fails, commit_ends, put_given, file_fails, file_smaller, so_far_more, file_taken}
+use Rattle.gx_script.proofs.BodyLemmas.{step_then, step_fails}
+use Rattle.gx_script.proofs.CommitLemmas.{author_fails, committer_fails, step_author, step_people, step_parents, commit_done}
 use Rattle.gx_script.proofs.commit.commit.Goals as goal
 
-pub returns-in_err-size-clause-next : goal.returns-in_err-size-clause-next
-returns-in_err-size-clause-next g c =
-    let count : c.len.result ≡ length c.edits.edits.items = omega (arith, c.len.ensures, c.edits.edits.ok) in
-    let here = rw count at c.room_behind-room_here.ensures in
-    let p = err_from_is_err_and c.from_residual-in_err-size.result c.from_residual-in_err-size.ensures.1 in
-    rw (p.1, p.2) (change_fails _ _ _ _ _ _ _ _ _ _ _ _ _ c.edits.invariant.so_far here c.edits.invariant.later c.in_err-size.ensures.line)
+pub returns-in_err-author-clause-commit : goal.returns-in_err-author-clause-commit
+returns-in_err-author-clause-commit g c =
+    let p = err_from_is_err_and c.from_residual.result c.from_residual.ensures.1 in
+    rw (p.1, p.2) (author_fails _ _ _ _ _ _ c.in_err-author.ensures.line)
 
-pub returns-in_default-2-clause-next : goal.returns-in_default-2-clause-next
-returns-in_default-2-clause-next g c =
-    rw (c.with_edits.ensures, c.new.ensures) (commit_ends _ _ _ _ _ _ _ _ _ c.room_behind-room_here.result c.edits.invariant.so_far (rw c.in_default-2.is at c.in_ok-size.ensures.line))
+pub returns-in_err-committer-clause-commit : goal.returns-in_err-committer-clause-commit
+returns-in_err-committer-clause-commit g c =
+    let p = err_from_is_err_and c.from_residual-in_err-committer.result c.from_residual-in_err-committer.ensures.1 in
+    rw (p.1, p.2) (step_fails _ _ _ _ _ _ _ _ _ _ _ _ (step_author _ _ _ _ _ c.in_ok-author.ensures.line) c.in_ok-author.ensures.later (committer_fails _ _ _ _ _ _ c.in_err-committer.ensures.line))
 
-pub returns-in_err-bytes-clause-next : goal.returns-in_err-bytes-clause-next
-returns-in_err-bytes-clause-next g c =
-    let count : c.len.result ≡ length c.edits.edits.items = omega (arith, c.len.ensures, c.edits.edits.ok) in
-    let here = rw count at c.room_behind-room_here.ensures in
-    let put = put_given _ _ _ _ _ _ _ _ _ _ _ _ c.edits.invariant.so_far here (rw c.in-Some-2.is at c.in_ok-size.ensures.line) in
-    let p = err_from_is_err_and c.from_residual-in_err-bytes.result c.from_residual-in_err-bytes.ensures.1 in
-    rw (p.1, p.2) (file_fails _ _ _ _ _ _ _ _ _ _ _ _ _ _ put (omega (arith, c.edits.invariant.later, c.in_ok-size.ensures.later)) c.in_err-bytes.ensures.block)
+pub returns-in_err-parents-clause-commit : goal.returns-in_err-parents-clause-commit
+returns-in_err-parents-clause-commit g c =
+    let p = err_from_is_err_and c.from_residual-in_err-parents.result c.from_residual-in_err-parents.ensures.1 in
+    rw (p.1, p.2) (step_fails _ _ _ _ _ _ _ _ _ _ _ _ (step_people _ _ _ _ _ _ _ _ c.in_ok-author.ensures.line c.in_ok-committer.ensures.line) (omega (arith, c.in_ok-author.ensures.later, c.in_ok-committer.ensures.later)) c.in_err-parents.ensures.parents)
 
-pub edits-smaller : goal.edits-smaller
-edits-smaller g c = file_smaller _ _ _ _ _ _ _ _ (rw c.in-Some-2.is at c.in_ok-size.ensures.line) c.in_ok-bytes.ensures.block.1
+pub content-requires : goal.content-requires
+content-requires g c = c.in_ok-parents.ensures.parents.0.2
 
-pub edits-preserved : goal.edits-preserved
-edits-preserved g c =
-    let count : c.len.result ≡ length c.edits.edits.items = omega (arith, c.len.ensures, c.edits.edits.ok) in
-    let here = rw count at c.room_behind-room_here.ensures in
-    let put = put_given _ _ _ _ _ _ _ _ _ _ _ _ c.edits.invariant.so_far here (rw c.in-Some-2.is at c.in_ok-size.ensures.line) in
-    record {
-      so_far = so_far_more _ _ _ _ _ _ _ _ _ _ _ _ _ _ put c.in_ok-bytes.ensures.block.0 c.in_ok-bytes.ensures.block.1 (omega (arith, put.fits)) c.in_ok-push.ensures.items;
-      later = omega (arith, c.edits.invariant.later, c.in_ok-size.ensures.later, c.in_ok-bytes.ensures.later);
-      kind = c.in_ok-bytes.ensures.kind ∙ c.in_ok-size.ensures.kind ∙ c.edits.invariant.kind;
-    }
+pub returns-in_err-message-clause-commit : goal.returns-in_err-message-clause-commit
+returns-in_err-message-clause-commit g c =
+    let p = err_from_is_err_and c.from_residual-in_err-message.result c.from_residual-in_err-message.ensures.1 in
+    rw (p.1, p.2) (step_fails _ _ _ _ _ _ _ _ _ _ _ _
+    (step_then _ _ _ _ _ _ _ _ _ _ _ (step_people _ _ _ _ _ _ _ _ c.in_ok-author.ensures.line c.in_ok-committer.ensures.line) (step_parents _ _ _ _ _ _ c.in_ok-parents.ensures.parents))
+    (omega (arith, c.in_ok-author.ensures.later, c.in_ok-committer.ensures.later, c.in_ok-parents.ensures.later)) c.in_err-message.ensures.content)
 
-pub returns-in_err-push-clause-next : goal.returns-in_err-push-clause-next
-returns-in_err-push-clause-next g c =
-    let count : c.len.result ≡ length c.edits.edits.items = omega (arith, c.len.ensures, c.edits.edits.ok) in
-    let here = rw count at c.room_behind-room_here.ensures in
-    let put = put_given _ _ _ _ _ _ _ _ _ _ _ _ c.edits.invariant.so_far here (rw c.in-Some-2.is at c.in_ok-size.ensures.line) in
-    let p = err_from_is_err_and c.from_residual-in_err-push.result c.from_residual-in_err-push.ensures.1 in
-    rw (p.1, p.2) (file_taken _ _ _ _ _ _ _ _ _ _ _ _ put c.in_ok-bytes.ensures.block.1)
+pub returns-clause-commit : goal.returns-clause-commit
+returns-clause-commit g c = commit_done _ _ _ _ _ _ _ _ _ _ _ _ _ refl c.in_ok-author.ensures.line c.in_ok-committer.ensures.line c.in_ok-parents.ensures.parents c.in_ok-message.ensures.content

@@ -1,4 +1,4 @@
-use Rattle.gx_tool.proofs.EndLemmas.{eight}
+use Rattle.gx_tool.proofs.LawLemmas.{eight}
 use Rattle.gx_tool.proofs.laws.eight_is_a_byte_past_the_limit.Goals as goal
 
 pub returns : goal.returns

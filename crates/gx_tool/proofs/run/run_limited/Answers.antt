@@ -1,4 +1,4 @@
-use Rattle.gx_tool.proofs.MachineLemmas.{answers_of}
+use Rattle.gx_tool.proofs.EndLemmas.{answers_of}
 use Rattle.gx_tool.proofs.run.run_limited.Goals as goal
 
 pub returns-in-Ok-clause-answers : goal.returns-in-Ok-clause-answers

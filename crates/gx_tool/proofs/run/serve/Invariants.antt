@@ -7,8 +7,8 @@ use Rattle.gx_tool.proofs.run.serve.Given as goal
 abbrev pub invariant-requests : goal.invariant-requests
 invariant-requests g l = record {
   so_far : SoFar l.limit
-      (record { store = g.S.Meanings.state (store_of l.fn.repo); left = g.I.Source.left l.fn.input; written = g.O.Sink.written l.fn.output; source_faults = g.I.Source.faults l.fn.input; sink_faults = g.O.Sink.faults l.fn.output })
-      (record { store = g.S.Meanings.state (store_of l.repo); left = g.I.Source.left l.input; written = g.O.Sink.written l.output; source_faults = g.I.Source.faults l.input; sink_faults = g.O.Sink.faults l.output })
+      (record { settings = settings_of l.fn.repo; store = g.S.Meanings.state (store_of l.fn.repo); left = g.I.Source.left l.fn.input; written = g.O.Sink.written l.fn.output; source_faults = g.I.Source.faults l.fn.input; sink_faults = g.O.Sink.faults l.fn.output })
+      (record { settings = settings_of l.repo; store = g.S.Meanings.state (store_of l.repo); left = g.I.Source.left l.input; written = g.O.Sink.written l.output; source_faults = g.I.Source.faults l.input; sink_faults = g.O.Sink.faults l.output })
       l.reader l.accepted;
   settings : settings_of l.repo ≡ settings_of l.fn.repo;
 }

@@ -1,7 +1,8 @@
 use Rattle.std.proofs.Common.{◌≡◌, ◌+◌, ◌*◌, length}
 use Rattle.gx_edit.specs.CanonicalTree.{Directory, IsCanonical}
-use Rattle.gx_edit.specs.Planning.{leaves_of, rows_at, load, Reach, made, nothing_made}
+use Rattle.gx_edit.specs.Planning.{leaves_of, rows_at, load, Reach, made}
 use Rattle.gx_edit.proofs.OpenLemmas.{loads, HaveReach, IsPlanning}
+use Rattle.gx_edit.proofs.PlanLemmas.{nothing_made}
 use Rattle.gx_edit.proofs.writing.plan.plan_trees.Given as goal
 
 -- each directory with these leaves has come to the rows that are left

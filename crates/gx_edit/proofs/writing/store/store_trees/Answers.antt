@@ -1,5 +1,4 @@
-use Rattle.std.proofs.Common.{take}
-use Rattle.gx_edit.proofs.StoringLemmas.{id_planned, tree_more, none_stored}
+use Rattle.gx_edit.proofs.StoringLemmas.{tree_more, none_stored}
 use Rattle.gx_edit.proofs.writing.store.store_trees.Goals as goal
 
 pub loop-tree-init : goal.loop-tree-init

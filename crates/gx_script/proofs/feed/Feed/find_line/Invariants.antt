@@ -1,5 +1,5 @@
 use Rattle.std.proofs.Common.{◌≡◌, ◌≤◌, [], length, take}
-use Rattle.gx_script.specs.Script.{NoNewline, line_limit}
+use Rattle.gx_script.specs.Items.{NoNewline, line_limit}
 use Rattle.gx_script.specs.Reading.{Moves}
 use Rattle.gx_script.proofs.feed.Feed.find_line.Given as goal
 

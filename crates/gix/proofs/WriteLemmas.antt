@@ -1,0 +1,144 @@
+-- What is written of a commit.
+use Rattle.std.proofs.Common.{◌≡◌, ◌∙◌, ◌<◌, ◌+◌, sym, ap, refl, subst, List, [], ◌∷◌, ◌++◌, ℕ, true, false, true≢false, length, take, drop, get_or, append_assoc, take-append-drop, None, IsSome, Result, Ok, Err, OnOk, OnErr}
+use Rattle.gx_rules.specs.declared.component_rules.Protect.{Protect}
+use Rattle.std.proofs.lemmas.List.{take_more, drop_more, append-nil}
+use Rattle.gx_hash.specs.declared.kind.HashKind.{HashKind}
+use Rattle.gx_hash.specs.declared.oid.ObjectId.{ObjectId}
+use Rattle.gx_hash.specs.ObjectId.{object_id}
+use Rattle.gx_object.specs.Kind.{kind_name}
+use Rattle.gx_object.specs.declared.kind.Kind.{Kind}
+use Rattle.gx_object.specs.declared.kind.Kind.TheVariants as kind
+use Rattle.gx_store.specs.State.{StoreState, Becomes, stored, all_stored}
+use Rattle.gx_store.specs.declared.error.StoreError.{StoreError}
+use Rattle.gx_store.specs.declared.error.What.TheVariants as what
+use Rattle.gx_edit.specs.PathList.{PathList, map_of}
+use Rattle.gx_edit.specs.PathMap.{blobs_in, blobs_of}
+use Rattle.gx_edit.specs.CanonicalTree.{Directory, StandsFor, trees_of}
+use Rattle.gx_edit.specs.WritePlain.{has_zero, BeginsTrees, WritesPlain, WritePlainCauses}
+use Rattle.gx_edit.specs.declared.error.EditError.{EditError}
+use Rattle.gx_edit.specs.declared.error.EditError.TheVariants as edit_error
+use Rattle.gx_edit.specs.declared.path_edit.PathEdit.{PathEdit}
+use Rattle.gix.specs.CommitRequest.{CommitRequest}
+use Rattle.gix.specs.Trees.{brought}
+use Rattle.gix.specs.CommitEdits.{Grows, commit_text, commit_id, written_objects}
+use Rattle.gix.specs.Stages.{IsOfStore, blob_ids}
+use Rattle.gix.proofs.Growth.{stores_more, becomes_then, becomes_itself}
+use Rattle.gix.proofs.TreeLemmas.{same_directory}
+use Rattle.gix.proofs.EditLemmas.{blob_ids-cons}
+
+-- ---- trees
+
+pub of_store : (paths : PathList) (s t : StoreState) (e : EditError) → has_zero paths ≡ false → WritePlainCauses paths None s t e → IsOfStore e
+of_store paths s t (edit_error.Store fault) plain c = tt
+of_store paths s t edit_error.NoMemory plain c = tt
+of_store paths s t (edit_error.WriteObject field) plain c = true≢false (sym c.1 ∙ plain)
+of_store paths s t (edit_error.InvalidFilename filename k id source) plain c = c.1.is.1
+of_store paths s t (edit_error.MissingObject filename k id) plain c = never c.0
+  where
+    never : IsSome {T = Protect} None → ⊥
+    never h = cc
+of_store paths s t edit_error.EmptyPathComponent plain c = c
+of_store paths s t (edit_error.FindExistingObject id) plain c = c
+of_store paths s t (edit_error.ObjectKind id actual) plain c = c
+of_store paths s t (edit_error.Decode id) plain c = c
+
+begun : (paths : PathList) (s t : StoreState) (directory : Directory) → StandsFor directory (map_of paths) → BeginsTrees paths None s t → Grows (trees_of s.hash directory) s t
+begun paths s t directory stands b = record {
+  first = b.first;
+  rest = b.rest;
+  split = ap (trees_of s.hash) (same_directory directory b.directory stands b.stands) ∙ b.split;
+  becomes = b.becomes;
+}
+
+pub trees_begun : (paths : PathList) (s t : StoreState) (e : EditError) → has_zero paths ≡ false → WritePlainCauses paths None s t e → (directory : Directory) → StandsFor directory (map_of paths) → Grows (trees_of s.hash directory) s t
+trees_begun paths s t (edit_error.Store what.Write) plain c directory stands = begun paths s t directory stands c.0.begun
+trees_begun paths s t (edit_error.Store (what.Object id)) plain c directory stands = absurd (never c.0)
+  where
+    never : IsSome {T = Protect} None → ⊥
+    never h = cc
+trees_begun paths s t (edit_error.Store (what.Name name)) plain c directory stands = absurd c
+trees_begun paths s t (edit_error.Store what.Index) plain c directory stands = absurd c
+trees_begun paths s t (edit_error.Store what.Listing) plain c directory stands = absurd c
+trees_begun paths s t edit_error.NoMemory plain c directory stands = begun paths s t directory stands c
+trees_begun paths s t (edit_error.WriteObject field) plain c directory stands = absurd (of_store paths s t (edit_error.WriteObject field) plain c)
+trees_begun paths s t (edit_error.InvalidFilename filename k id source) plain c directory stands = absurd (of_store paths s t (edit_error.InvalidFilename filename k id source) plain c)
+trees_begun paths s t (edit_error.MissingObject filename k id) plain c directory stands = absurd (of_store paths s t (edit_error.MissingObject filename k id) plain c)
+trees_begun paths s t edit_error.EmptyPathComponent plain c directory stands = absurd c
+trees_begun paths s t (edit_error.FindExistingObject id) plain c directory stands = absurd c
+trees_begun paths s t (edit_error.ObjectKind id actual) plain c directory stands = absurd c
+trees_begun paths s t (edit_error.Decode id) plain c directory stands = absurd c
+
+pub trees_written : (paths : PathList) (s t : StoreState) (id : ObjectId) → WritesPlain paths None s id t → (directory : Directory) → StandsFor directory (map_of paths) → Becomes (all_stored (trees_of s.hash directory) s) t
+trees_written paths s t id w directory stands = subst (λ d. Becomes (all_stored (trees_of s.hash d) s) t) (same_directory w.directory directory w.stands stands) w.becomes
+
+-- ---- blobs
+
+pub ids_ahead : (hash : HashKind) (edits : List PathEdit) (i : ℕ) (edit : PathEdit) → i < length edits → edit ≡ get_or edits i edit → blob_ids hash (drop i edits) ≡ blob_ids hash (edit ∷ []) ++ blob_ids hash (drop (i + 1) edits)
+ids_ahead hash edits i edit lt there = ap (blob_ids hash) (drop_more edits i edit lt ∙ ap (λ e. e ∷ drop (i + 1) edits) (sym there)) ∙ blob_ids-cons hash edit (drop (i + 1) edits)
+
+blobs_of-append : (xs ys : List PathEdit) → blobs_of (xs ++ ys) ≡ blobs_of xs ++ blobs_of ys
+blobs_of-append [] ys = refl
+blobs_of-append (x ∷ xs) ys = ap (λ l. blobs_in x ++ l) (blobs_of-append xs ys) ∙ sym (append_assoc (blobs_in x) (blobs_of xs) (blobs_of ys))
+
+pub blobs_more : (edits : List PathEdit) (i : ℕ) (edit : PathEdit) (s t u : StoreState) → i < length edits → edit ≡ get_or edits i edit → Becomes (all_stored (blobs_of (take i edits)) s) t → Becomes (all_stored (blobs_in edit) t) u → Becomes (all_stored (blobs_of (take (i + 1) edits)) s) u
+blobs_more edits i edit s t u lt there before after = subst (λ l. Becomes (all_stored l s) u)
+    (sym (ap blobs_of (take_more edits i edit lt ∙ ap (λ e. take i edits ++ e ∷ []) (sym there)) ∙ blobs_of-append (take i edits) (edit ∷ []) ∙ ap (λ l. blobs_of (take i edits) ++ l) (append-nil (blobs_in edit))))
+    (stores_more (blobs_of (take i edits)) (blobs_in edit) s t u before after)
+
+-- ---- all objects of a commit
+
+module _ (r : CommitRequest) (s : StoreState) (directory : Directory) where
+  abbrev commit : Kind × List ℕ
+  commit = (kind.Commit, commit_text s.hash r directory)
+
+  grows_by_blobs : (n : ℕ) (t u : StoreState) → Becomes (all_stored (blobs_of (take n r.edits)) s) t → Becomes t u → Grows (written_objects s.hash r directory) s u
+  grows_by_blobs n t u b c = record {
+    first = blobs_of (take n r.edits);
+    rest = blobs_of (drop n r.edits) ++ (trees_of s.hash directory ++ commit ∷ []);
+    split =
+        append_assoc (blobs_of r.edits) (trees_of s.hash directory) (commit ∷ [])
+        ∙ ap (λ l. l ++ (trees_of s.hash directory ++ commit ∷ [])) (ap blobs_of (sym (take-append-drop n r.edits)) ∙ blobs_of-append (take n r.edits) (drop n r.edits))
+        ∙ append_assoc (blobs_of (take n r.edits)) (blobs_of (drop n r.edits)) (trees_of s.hash directory ++ commit ∷ []);
+    becomes = becomes_then (all_stored (blobs_of (take n r.edits)) s) t u b c;
+  }
+
+  pub blobs_grow : (n : ℕ) (t : StoreState) → Becomes (all_stored (blobs_of (take n r.edits)) s) t → Grows (written_objects s.hash r directory) s t
+  blobs_grow n t b = grows_by_blobs n t t b (becomes_itself t)
+
+  pub trees_grow : (t u : StoreState) → Becomes (all_stored (blobs_of r.edits) s) t → Grows (trees_of s.hash directory) t u → Grows (written_objects s.hash r directory) s u
+  trees_grow t u b g = record {
+    first = blobs_of r.edits ++ g.first;
+    rest = g.rest ++ commit ∷ [];
+    split =
+        append_assoc (blobs_of r.edits) (trees_of s.hash directory) (commit ∷ [])
+        ∙ ap (λ l. blobs_of r.edits ++ (l ++ commit ∷ [])) g.split
+        ∙ ap (λ l. blobs_of r.edits ++ l) (append_assoc g.first g.rest (commit ∷ []))
+        ∙ sym (append_assoc (blobs_of r.edits) g.first (g.rest ++ commit ∷ []));
+    becomes = stores_more (blobs_of r.edits) g.first s t u b g.becomes;
+  }
+
+  pub brought_stored : (t u : StoreState) → Becomes (all_stored (blobs_of r.edits) s) t → Becomes (all_stored (trees_of s.hash directory) t) u → Becomes (all_stored (brought s.hash r directory) s) u
+  brought_stored t u b c = stores_more (blobs_of r.edits) (trees_of s.hash directory) s t u b c
+
+  pub brought_grow : (t u : StoreState) → Becomes (all_stored (brought s.hash r directory) s) t → Becomes t u → Grows (written_objects s.hash r directory) s u
+  brought_grow t u b c = record {
+    first = brought s.hash r directory;
+    rest = commit ∷ [];
+    split = refl;
+    becomes = becomes_then (all_stored (brought s.hash r directory) s) t u b c;
+  }
+
+  pub all_written : (t u : StoreState) (bytes : List ℕ) → bytes ≡ commit_text s.hash r directory → Becomes (all_stored (brought s.hash r directory) s) t → Becomes (all_stored ((kind.Commit, bytes) ∷ []) t) u → Becomes (all_stored (written_objects s.hash r directory) s) u
+  all_written t u bytes is b c = subst (λ x. Becomes (all_stored (brought s.hash r directory ++ (kind.Commit, x) ∷ []) s) u) is (stores_more (brought s.hash r directory) ((kind.Commit, bytes) ∷ []) s t u b c)
+
+  pub commit_written : (result : Result (Unit {0}) StoreError) (t u : StoreState) (id : ObjectId) (bytes : List ℕ) → bytes ≡ commit_text s.hash r directory → id ≡ commit_id s.hash r directory → Becomes (all_stored (brought s.hash r directory) s) t
+      → OnOk result (Becomes (stored id (kind.Commit, bytes) t) u) → OnOk result (Becomes (all_stored (written_objects s.hash r directory) s) u)
+  commit_written (Err e) t u id bytes is is_id b h = tt
+  commit_written (Ok x) t u id bytes is is_id b h =
+      let kept : t.hash ≡ s.hash = ap (λ (v : StoreState). v.hash) b.same in
+      let own : id ≡ object_id t.hash (kind_name kind.Commit) bytes = is_id ∙ ap (object_id s.hash (kind_name kind.Commit)) (sym is) ∙ ap (λ k. object_id k (kind_name kind.Commit) bytes) (sym kept) in
+      all_written t u bytes is b (subst (λ i. Becomes (stored i (kind.Commit, bytes) t) u) own h)
+
+  pub commit_begun : (result : Result (Unit {0}) StoreError) (t u : StoreState) → Becomes (all_stored (brought s.hash r directory) s) t → OnErr result (Becomes t u) → OnErr result (Grows (written_objects s.hash r directory) s u)
+  commit_begun (Ok x) t u b h = tt
+  commit_begun (Err e) t u b h = brought_grow t u b h

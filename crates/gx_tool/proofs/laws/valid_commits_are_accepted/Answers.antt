@@ -1,0 +1,5 @@
+use Rattle.gx_tool.proofs.LawLemmas.{valid_commits}
+use Rattle.gx_tool.proofs.laws.valid_commits_are_accepted.Goals as goal
+
+pub returns : goal.returns
+returns c = valid_commits c.valid_is_made.ensures
