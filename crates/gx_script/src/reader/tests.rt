@@ -5,9 +5,7 @@ use gx_hash::Bytes;
 use gx_store::{Calls, MemorySource};
 use std::test::Fail;
 
-mod forms;
 mod hostile;
-mod limits;
 
 /// A commit with a file, as the language spells it.
 const ONE: &[u8] =
