@@ -277,7 +277,7 @@ def built_program():
         subprocess.run([os.path.join(TOP, "gx"), "--version"], check=True, stdin=subprocess.DEVNULL, stdout=subprocess.DEVNULL)
     except (OSError, subprocess.CalledProcessError) as failure:
         sys.exit(f"bench: the program can't be built or run: {failure}")
-    return os.path.join(TOP, "crates", "gx_tool", "out", "gx_tool")
+    return os.path.join(TOP, "crates", "gx", "out", "gx")
 
 
 def arguments():

@@ -17,7 +17,7 @@ import sys
 import tempfile
 
 MODES = {"file": b"100644", "exec": b"100755", "link": b"120000", "module": b"160000"}
-# Names that sort otherwise with a slash behind them than without one.
+# Names that sort otherwise with a slash after them than without one.
 NAMES = (b"a", b"a.b", b"a-b", b"ab", b"a0", b"b", b"B", b"dir", b"z", "\u00e4".encode())
 BRANCHES = (b"HEAD", b"refs/heads/main", b"refs/heads/topic", b"refs/heads/dir/one", b"refs/heads/dir/two",
             b"refs/tags/first", b"refs/notes/commits")

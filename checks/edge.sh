@@ -20,7 +20,7 @@ with_input() {
     "$top/gx" "$@" <"$input" 2>"$scratch/said"
 }
 
-# with_rest WORD..: the program with these words reads a script; what it leaves of that is printed behind its replies.
+# with_rest WORD..: the program with these words reads a script; what it leaves of that is printed after its replies.
 with_rest() {
     local status=0
     {
@@ -97,14 +97,16 @@ rejects "no words" 6 "$usage"
 rejects "a store alone" 6 "$usage" --memory
 rejects "a store of SHA-256 alone" 6 "$usage" --memory-sha256
 rejects "an unknown word" 6 "$usage" --memory forget
-rejects "--help behind a store" 6 "$usage" --memory --help
+rejects "a word in other letters" 6 "$usage" --memory Apply
+rejects "a word with a number" 6 "$usage" --memory generate 5
+rejects "--help after a store" 6 "$usage" --memory --help
 rejects "a word too many" 6 "$usage" --memory apply again
 rejects "a word that is not UTF-8" 6 "$usage" $'\xff' apply
 rejects "another store" 9 "$no_repository" nowhere apply
 rejects "no store" 9 "$no_repository" apply
 rejects "an empty word for the store" 9 "$no_repository" "" apply
-rejects "a word behind --help" 9 "$no_repository" --help apply
-rejects "a word behind --version" 9 "$no_repository" --version apply
+rejects "a word after --help" 9 "$no_repository" --help apply
+rejects "a word after --version" 9 "$no_repository" --version apply
 
 unheard() {
     "$top/gx" "$@" <"$first.script" 2>&-
@@ -115,8 +117,8 @@ runs "another store, with standard error closed," 9 "$nothing" unheard nowhere a
 applies "the empty script" 0 "$nothing" "$nothing"
 head -n 4 -- "$first.script" >"$scratch/cut"
 applies "a script that is cut off" 2 "$nothing" "$scratch/cut"
-{ cat -- "$first.script"; echo; } >"$scratch/behind"
-applies "an empty line behind a request" 2 "$first.expected" "$scratch/behind"
+{ cat -- "$first.script"; echo; } >"$scratch/after"
+applies "an empty line after a request" 2 "$first.expected" "$scratch/after"
 
 # A folder can be opened and not read.
 applies "a source that fails" 3 "$nothing" "$scratch"

@@ -1,6 +1,6 @@
 #!/usr/bin/env bash
 # The commits of the examples have the ids that Git's own commands give to the same files, authors and messages.
-# The values stand here once more, so that neither the scripts nor the program are asked what they are.
+# The values are here once more, so that neither the scripts nor the program are asked what they are.
 set -uo pipefail
 . "$(dirname -- "$(readlink -f -- "${BASH_SOURCE[0]}")")/lib.sh"
 
@@ -33,7 +33,7 @@ first_commit() {
         git commit-tree "$tree" <<<'c1'
 }
 
-# One file was put twice: the later bytes stand. git mktree sorts the entries itself.
+# One file was put twice: the later bytes count. git mktree sorts the entries itself.
 several_files() {
     local tree
     tree=$({

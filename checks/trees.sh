@@ -1,13 +1,14 @@
 #!/usr/bin/env bash
 # Random path maps, put path by path, have the roots and the paths that Git gives an index of the same lines: a path takes
-# the place of what stands above it and below it in both. Both kinds of ids. GX_SEED is the first seed, or else a random one.
+# the place of what stands above it and below it in both. Both kinds of ids. GX_SEED is another first seed, or `random`.
 set -uo pipefail
 . "$(dirname -- "$(readlink -f -- "${BASH_SOURCE[0]}")")/lib.sh"
 
 needs_git "no tree of its making is compared"
 build gx_probe names
 program=$top/crates/gx_probe/out/gx_probe
-seed=${GX_SEED:-$RANDOM}
+seed=${GX_SEED:-20261201}
+[[ $seed != random ]] || seed=$RANDOM
 maps=200
 
 # lines SEED DIGITS: up to 40 leaves at paths of up to four names, with ids of so many digits. The names sort apart from

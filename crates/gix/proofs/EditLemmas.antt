@@ -4,10 +4,10 @@ use Rattle.std.proofs.lemmas.List.{take-append-drop, take_more, drop_more, map-a
 use Rattle.std.proofs.lemmas.List.Folds.{list_all-append}
 use Rattle.gx_hash.specs.declared.kind.HashKind.{HashKind}
 use Rattle.gx_hash.specs.declared.oid.ObjectId.{ObjectId}
-use Rattle.gx_store.specs.Content.{id_of, id_eq}
+use Rattle.gx_hash.specs.ObjectIds.{id_eq, has_id}
+use Rattle.gx_store.specs.Content.{id_of}
 use Rattle.gx_edit.specs.PathMap.{PathMap, edited, with_edit, blobs_in, blobs_of, path_of}
 use Rattle.gx_edit.specs.PathList.{PathList, map_of}
-use Rattle.gx_edit.specs.CheckPlain.{has_id}
 use Rattle.gx_edit.specs.declared.path_edit.PathEdit.{PathEdit}
 use Rattle.gix.specs.Trees.{has_gap, have_names}
 use Rattle.gix.specs.Causes.{IsFirstGap}

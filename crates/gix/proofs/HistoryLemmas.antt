@@ -7,12 +7,12 @@ use Rattle.gx_hash.specs.declared.kind.HashKind.{HashKind}
 use Rattle.gx_hash.specs.declared.oid.ObjectId.{ObjectId}
 use Rattle.gx_hash.specs.HashKind.{kind_of}
 use Rattle.gx_hash.specs.ObjectId.{empty_tree_id}
-use Rattle.gx_hash.proofs.IdLaws.{id_cmp-IsAntisymmetric}
+use Rattle.gx_hash.specs.Laws.{same_id}
 use Rattle.gx_object.specs.declared.kind.Kind.{Kind}
 use Rattle.gx_object.specs.declared.kind.Kind.TheVariants as kind
-use Rattle.gx_store.specs.Content.{Content, id_eq, lookup, id_of, object_at, HoldsAll, Adds, AreOfOwnIds, AreApart}
+use Rattle.gx_hash.specs.ObjectIds.{id_eq}
+use Rattle.gx_store.specs.Content.{Content, lookup, id_of, object_at, HoldsAll, Adds, AreOfOwnIds, AreApart}
 use Rattle.gx_store.proofs.ContentLemmas.{found_stays}
-use Rattle.gx_store.proofs.SlotLemmas.{tied}
 use Rattle.gx_edit.specs.PathMap.{PathMap, no_paths, edited, blobs_in, blobs_of}
 use Rattle.gx_edit.specs.CanonicalTree.{Directory, tree_of, trees_below, trees_of}
 use Rattle.gx_edit.specs.CanonicalTree.Directory.{End, File, Sub}
@@ -29,7 +29,7 @@ use Rattle.gix.specs.CommitEdits.{commit_text, commit_id, written_objects}
 use Rattle.gix.specs.Machine.{Accepts}
 use Rattle.gix.specs.History.{Call, AddsCommit, AddsFirst, Left, CallStep, Premises, History, IsEmpty, ByParent, IsLine, line_map}
 use Rattle.gix.proofs.OnceLemmas.{one_kind, one_map}
-use Rattle.gix.proofs.ValidLemmas.{All-before, ids_tied}
+use Rattle.gix.proofs.ValidLemmas.{All-before}
 use Rattle.gix.proofs.NewMaps.{new_map}
 
 -- ---- what stays found
@@ -70,9 +70,6 @@ apart_before hash content xs ys h = record {
 }
 
 -- ---- commits that are new
-
-same_id : (a b : ObjectId) → id_eq a b ≡ true → a ≡ b
-same_id a b e = id_cmp-IsAntisymmetric a b (tied _ (sym (ids_tied a b) ∙ e))
 
 old_or_new : {X : Type 0} (o p e : Option X) (x : X) → option_or (option_or o p) e ≡ Some x → (option_or o e ≡ Some x) ⊎ (p ≡ Some x)
 old_or_new (Some y) p e x h = inl h

@@ -1,5 +1,5 @@
 -- A valid request has no cause to be refused, and where the store has no fault it is made, but for want of memory.
-use Rattle.std.proofs.Common.{◌≡◌, ◌≢◌, ◌∙◌, sym, ap, refl, subst, arith, List, [], ◌∷◌, ℕ, suc, zero, Bool, true, false, true≢false, Option, Some, None, IsSome, Contains, ⊎_elim, ◌⊎◌}
+use Rattle.std.proofs.Common.{◌≡◌, ◌∙◌, sym, ap, refl, subst, arith, List, [], ◌∷◌, ℕ, suc, zero, Bool, true≢false, Option, Some, None, IsSome, Contains, ⊎_elim, ◌⊎◌}
 use Rattle.gx_object.specs.declared.encode.Field.{Field}
 use Rattle.gx_object.specs.declared.encode.Field.TheVariants as field
 use Rattle.gx_object.specs.Mode.{kind_of_mode}
@@ -10,7 +10,7 @@ use Rattle.gx_store.specs.declared.error.What.TheVariants as what
 use Rattle.gx_edit.specs.Path.{Path}
 use Rattle.gx_edit.specs.PathMap.{PathMap}
 use Rattle.gx_edit.specs.CanonicalTree.{Directory}
-use Rattle.gx_edit.specs.WritePlain.{is_link_kind}
+use Rattle.gx_edit.specs.Entries.{is_link_kind}
 use Rattle.gx_edit.specs.declared.leaf.Leaf.{Leaf}
 use Rattle.gix.specs.declared.settings.Settings.{Settings}
 use Rattle.gix.specs.declared.error.CommitEditsError.{CommitEditsError}

@@ -6,21 +6,20 @@ use Rattle.gx_hash.specs.declared.kind.HashKind.{HashKind}
 use Rattle.gx_hash.specs.declared.oid.ObjectId.{ObjectId}
 use Rattle.gx_hash.specs.HashKind.{kind_of}
 use Rattle.gx_hash.specs.ObjectId.{hex_of, null_id}
-use Rattle.gx_hash.proofs.DigestLemmas.{object_id_is_whole, object_id_digits, object_id_kind}
+use Rattle.gx_hash.specs.Laws.{object_id_is_whole, object_id_digits, object_id_kind, computed_digits}
 use Rattle.gx_object.specs.declared.kind.Kind.{Kind}
 use Rattle.gx_object.specs.declared.kind.Kind.TheVariants as kind
 use Rattle.gx_object.specs.declared.commit.Commit.{Commit}
 use Rattle.gx_object.specs.declared.tree.Entry.{Entry}
 use Rattle.gx_object.specs.declared.tree.EntryKind.TheVariants as entry_kind
 use Rattle.gx_object.specs.Commit.{commit_bytes, plain_commit_bytes}
-use Rattle.gx_object.specs.CommitSpelling.{IsHexId, SpellsCommit}
+use Rattle.gx_hash.specs.IdDigits.{IsHexId}
+use Rattle.gx_object.specs.CommitSpelling.{SpellsCommit}
 use Rattle.gx_object.specs.Kind.{kind_name}
 use Rattle.gx_object.specs.Mode.{mode_of}
 use Rattle.gx_object.specs.Tree.{tree_bytes}
 use Rattle.gx_object.specs.WrittenText.{written_commit, HasSeconds, CanWriteCommit}
-use Rattle.gx_object.proofs.CommitFields.{all_writable}
-use Rattle.gx_object.proofs.IdDigits.{computed_digits}
-use Rattle.gx_object.proofs.WrittenCommits.{commit_spelled}
+use Rattle.gx_object.specs.Laws.{all_writable, commit_spelled}
 use Rattle.gx_store.specs.Content.{Content, lookup, id_of, HoldsAll, Adds}
 use Rattle.gx_store.proofs.ContentLemmas.{added_is_found}
 use Rattle.gx_edit.specs.Path.{Path, path_eq, leads_to, components}
@@ -28,7 +27,7 @@ use Rattle.gx_edit.specs.PathMap.{PathMap, put, dropped, with_edit, edited, file
 use Rattle.gx_edit.specs.CanonicalTree.{Directory, leaf_at, IsCanonical, StandsFor, Represents, entries_of, tree_of, root_of, trees_below, trees_of}
 use Rattle.gx_edit.specs.CanonicalTree.Directory.{End, File, Sub}
 use Rattle.gx_edit.specs.SharedIds.{HasNoNullId}
-use Rattle.gx_edit.specs.WritePlain.{entries_within}
+use Rattle.gx_edit.specs.CanonicalTree.{entries_within}
 use Rattle.gx_edit.specs.declared.leaf.Leaf.{Leaf}
 use Rattle.gx_edit.specs.declared.path_edit.PathEdit.{PathEdit}
 use Rattle.gx_edit.specs.declared.path_edit.PathEdit.TheVariants as edit

@@ -24,8 +24,9 @@ use Rattle.gx_edit.specs.Path.{Path, IsName}
 use Rattle.gx_edit.specs.PathMap.{PathMap}
 use Rattle.gx_edit.specs.CanonicalTree.{Directory, leaf_at, IsCanonical}
 use Rattle.gx_edit.specs.CanonicalTree.Directory.{End, File, Sub}
-use Rattle.gx_edit.specs.CheckPlain.{has_id}
-use Rattle.gx_edit.specs.WritePlain.{IsSafe, IsEntry, is_link, entries_within}
+use Rattle.gx_hash.specs.ObjectIds.{has_id}
+use Rattle.gx_edit.specs.CanonicalTree.{entries_within}
+use Rattle.gx_edit.specs.Entries.{IsSafe, IsEntry, is_link}
 use Rattle.gx_edit.specs.declared.leaf.Leaf.{Leaf}
 use Rattle.gx_edit.specs.declared.path_edit.PathEdit.{PathEdit}
 use Rattle.gx_edit.proofs.PathLemmas.{bytes_eq-is}
@@ -184,7 +185,7 @@ module _ (settings : Settings) (r : CommitRequest) (state : State) (directory : 
   not_unsafe filename entry_kind id source c =
       let same : c.directory ≡ directory = one_directory_made r state c.directory directory c.makes a.objects.trees.makes in
       let safe : IsSafe (Some settings.protect) c.entry = all_at (IsSafe (Some settings.protect)) (entries_within state.hash directory) c.entry a.objects.trees.safe (subst (λ d. Contains (entries_within state.hash d) c.entry) same c.within) in
-      safe source (subst (λ n. Violates n (is_link c.entry) settings.protect source) c.holds.0.named c.holds.1.violated)
+      safe source (subst (λ n. Violates n (is_link c.entry) settings.protect source) c.holds.0.named c.holds.1.broken)
 
   pub not_missing : (filename : List ℕ) (entry_kind : EntryKind) (id : ObjectId) → OfEntry r (whole state) (λ directory entry. IsEntry entry filename entry_kind id × IsMissing r (whole state) directory entry) → ⊥
   not_missing filename entry_kind id c =

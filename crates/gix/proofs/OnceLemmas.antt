@@ -6,7 +6,7 @@ use Rattle.gx_hash.specs.ObjectId.{id_from_hex}
 use Rattle.gx_object.specs.declared.kind.Kind.{Kind}
 use Rattle.gx_object.specs.declared.kind.Kind.TheVariants as kind
 use Rattle.gx_object.specs.CommitSpelling.{CommitText, SpellsCommit}
-use Rattle.gx_object.proofs.OneCommit.{one_commit}
+use Rattle.gx_object.specs.Laws.{one_commit}
 use Rattle.gx_rules.specs.Name.{name_cmp}
 use Rattle.std.specs.FinMap.{FinMap, get}
 use Rattle.gx_store.specs.Content.{Content}

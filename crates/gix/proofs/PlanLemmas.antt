@@ -1,5 +1,5 @@
 -- What is planned of a commit, and why its reference is not.
-use Rattle.std.proofs.Common.{◌≡◌, ◌∙◌, ◌+◌, sym, ap, refl, subst, List, [], ◌∷◌, ◌++◌, ℕ, Bool, true, false, ◌||◌, length, length-append, append_assoc, arith, Option, IfSome}
+use Rattle.std.proofs.Common.{◌≡◌, ◌∙◌, sym, ap, refl, subst, List, [], ◌∷◌, ◌++◌, ℕ, Bool, true, false, ◌||◌, length, length-append, append_assoc, arith, Option, IfSome}
 use Rattle.std.specs.Str.{bytes_eq}
 use Rattle.std.specs.FinMap.{FinMap}
 use Rattle.gx_hash.specs.declared.kind.HashKind.{HashKind}
@@ -12,7 +12,6 @@ use Rattle.gx_store.specs.Kinds.{AreChangesOfKind}
 use Rattle.gx_store.specs.State.{StoreState, OfFault}
 use Rattle.gx_store.specs.declared.error.StoreError.{StoreError}
 use Rattle.gx_store.specs.declared.error.StoreError.TheVariants as store_error
-use Rattle.gx_store.specs.declared.error.What.TheVariants as what
 use Rattle.gx_store.specs.declared.target.Target.{Target}
 use Rattle.gx_edit.specs.CanonicalTree.{Directory}
 use Rattle.gx_edit.proofs.PathLemmas.{bytes_eq-is}

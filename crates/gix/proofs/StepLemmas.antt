@@ -1,5 +1,5 @@
 -- A call of `commit_edits` over a store that tells its state is a step of a history.
-use Rattle.std.proofs.Common.{◌≡◌, ◌∙◌, sym, ap, refl, subst, List, [], ◌∷◌, ◌++◌, append-nil, ℕ, Option, Some, None, inl, inr, ◌⊎◌, ⊎_elim, Result, Ok, Err, IfOk, IfErr}
+use Rattle.std.proofs.Common.{◌≡◌, ◌∙◌, sym, ap, refl, subst, List, [], ◌∷◌, ◌++◌, append-nil, ℕ, Option, Some, None, inl, inr, ⊎_elim, Result, Ok, Err, IfOk, IfErr}
 use Rattle.std.specs.Prelude.{option_map}
 use Rattle.gx_hash.specs.declared.oid.ObjectId.{ObjectId}
 use Rattle.gx_object.specs.declared.kind.Kind.{Kind}

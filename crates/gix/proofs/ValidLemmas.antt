@@ -2,27 +2,22 @@
 use Rattle.std.proofs.Common.{◌≡◌, ◌≢◌, ◌∙◌, sym, ap, refl, subst, List, [], ◌∷◌, ◌++◌, map, ℕ, Bool, true, false, true≢false, ◌||◌, cond, Option, Some, None, inl, inr, ◌⊎◌}
 use Rattle.std.specs.Str.{bytes_eq}
 use Rattle.std.specs.List.{AllByRecursion}
-use Rattle.std.specs.Ordering.{eq_by_cmp}
-use Rattle.std.specs.Cmp.{eq_by_cmp_equiv}
-use Rattle.std.specs.Cmp.Lexicographic.{texts_ties}
 use Rattle.std.proofs.lemmas.List.{map-append}
-use Rattle.gx_hash.specs.ObjectId.{id_cmp}
 use Rattle.gx_hash.specs.declared.kind.HashKind.{HashKind}
-use Rattle.gx_hash.specs.declared.oid.ObjectId.{ObjectId}
-use Rattle.gx_hash.specs.declared.oid.ObjectId.TheVariants.{Sha1, Sha256}
-use Rattle.gx_hash.proofs.IdLaws.{id_cmp_total}
+use Rattle.gx_hash.specs.Laws.{own_id}
 use Rattle.gx_rules.specs.Component.{IsComponent}
 use Rattle.gx_rules.specs.declared.component_rules.Protect.{Protect}
 use Rattle.gx_object.specs.declared.kind.Kind.{Kind}
 use Rattle.gx_object.specs.declared.tree.EntryKind.TheVariants as entry_kind
 use Rattle.gx_object.specs.Mode.{mode_of, kind_of_mode}
-use Rattle.gx_store.specs.Content.{IsStored, id_of, id_eq}
+use Rattle.gx_hash.specs.ObjectIds.{id_eq, has_id}
+use Rattle.gx_store.specs.Content.{IsStored, id_of}
 use Rattle.gx_edit.specs.Path.{Path, path_eq, leads_to, components}
 use Rattle.gx_edit.specs.PathMap.{PathMap, put, dropped, with_edit, edited, file_mode, blob_id, blobs_in, blobs_of}
 use Rattle.gx_edit.specs.CanonicalTree.{Directory, leaf_at, IsCanonical, tree_of, root_of, trees_below, trees_of}
 use Rattle.gx_edit.specs.CanonicalTree.Directory.{End, File, Sub}
-use Rattle.gx_edit.specs.CheckPlain.{has_id}
-use Rattle.gx_edit.specs.WritePlain.{IsSafe, is_link_kind, entries_within}
+use Rattle.gx_edit.specs.CanonicalTree.{entries_within}
+use Rattle.gx_edit.specs.Entries.{IsSafe, is_link_kind}
 use Rattle.gx_edit.specs.declared.leaf.Leaf.{Leaf}
 use Rattle.gx_edit.specs.declared.path_edit.PathEdit.{PathEdit}
 use Rattle.gx_edit.specs.declared.path_edit.PathEdit.TheVariants as edit
@@ -100,15 +95,6 @@ module _ (hash : HashKind) (protect : Protect) where
       (first, safe_entries rest ok.4 (λ p x h. safe p x (behind_sub n inner rest ok p x h)))
 
 -- ---- ids that are brought
-
-pub ids_tied : (a b : ObjectId) → id_eq a b ≡ eq_by_cmp id_cmp a b
-ids_tied (Sha1 a) (Sha1 b) = texts_ties a b
-ids_tied (Sha1 a) (Sha256 b) = refl
-ids_tied (Sha256 a) (Sha1 b) = refl
-ids_tied (Sha256 a) (Sha256 b) = texts_ties a b
-
-own_id : (a : ObjectId) → id_eq a a ≡ true
-own_id a = ids_tied a a ∙ (eq_by_cmp_equiv id_cmp_total).refl a
 
 either_right : (a b : Bool) → b ≡ true → (a || b) ≡ true
 either_right true b h = refl

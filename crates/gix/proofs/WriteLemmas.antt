@@ -1,6 +1,5 @@
 -- What is written of a commit.
-use Rattle.std.proofs.Common.{◌≡◌, ◌∙◌, ◌<◌, ◌+◌, sym, ap, refl, subst, List, [], ◌∷◌, ◌++◌, ℕ, true, false, true≢false, length, take, drop, get_or, append_assoc, take-append-drop, None, IsSome, Result, Ok, Err, OnOk, OnErr}
-use Rattle.gx_rules.specs.declared.component_rules.Protect.{Protect}
+use Rattle.std.proofs.Common.{◌≡◌, ◌∙◌, ◌<◌, ◌+◌, sym, ap, refl, subst, List, [], ◌∷◌, ◌++◌, ℕ, length, take, drop, get_or, append_assoc, take-append-drop, Result, Ok, Err, OnOk, OnErr}
 use Rattle.std.proofs.lemmas.List.{take_more, drop_more, append-nil}
 use Rattle.gx_hash.specs.declared.kind.HashKind.{HashKind}
 use Rattle.gx_hash.specs.declared.oid.ObjectId.{ObjectId}
@@ -10,66 +9,32 @@ use Rattle.gx_object.specs.declared.kind.Kind.{Kind}
 use Rattle.gx_object.specs.declared.kind.Kind.TheVariants as kind
 use Rattle.gx_store.specs.State.{StoreState, Becomes, stored, all_stored}
 use Rattle.gx_store.specs.declared.error.StoreError.{StoreError}
-use Rattle.gx_store.specs.declared.error.What.TheVariants as what
-use Rattle.gx_edit.specs.PathList.{PathList, map_of}
 use Rattle.gx_edit.specs.PathMap.{blobs_in, blobs_of}
-use Rattle.gx_edit.specs.CanonicalTree.{Directory, StandsFor, trees_of}
-use Rattle.gx_edit.specs.WritePlain.{has_zero, BeginsTrees, WritesPlain, WritePlainCauses}
-use Rattle.gx_edit.specs.declared.error.EditError.{EditError}
-use Rattle.gx_edit.specs.declared.error.EditError.TheVariants as edit_error
+use Rattle.gx_edit.specs.CanonicalTree.{Directory, trees_of}
+use Rattle.gx_edit.specs.Output.{Output, output_of}
 use Rattle.gx_edit.specs.declared.path_edit.PathEdit.{PathEdit}
 use Rattle.gix.specs.CommitRequest.{CommitRequest}
 use Rattle.gix.specs.Trees.{brought}
 use Rattle.gix.specs.CommitEdits.{Grows, commit_text, commit_id, written_objects}
-use Rattle.gix.specs.Stages.{IsOfStore, blob_ids}
+use Rattle.gix.specs.Stages.{blob_ids}
 use Rattle.gix.proofs.Growth.{stores_more, becomes_then, becomes_itself}
-use Rattle.gix.proofs.TreeLemmas.{same_directory}
 use Rattle.gix.proofs.EditLemmas.{blob_ids-cons}
 
 -- ---- trees
 
-pub of_store : (paths : PathList) (s t : StoreState) (e : EditError) → has_zero paths ≡ false → WritePlainCauses paths None s t e → IsOfStore e
-of_store paths s t (edit_error.Store fault) plain c = tt
-of_store paths s t edit_error.NoMemory plain c = tt
-of_store paths s t (edit_error.WriteObject field) plain c = true≢false (sym c.1 ∙ plain)
-of_store paths s t (edit_error.InvalidFilename filename k id source) plain c = c.1.is.1
-of_store paths s t (edit_error.MissingObject filename k id) plain c = never c.0
-  where
-    never : IsSome {T = Protect} None → ⊥
-    never h = cc
-of_store paths s t edit_error.EmptyPathComponent plain c = c
-of_store paths s t (edit_error.FindExistingObject id) plain c = c
-of_store paths s t (edit_error.ObjectKind id actual) plain c = c
-of_store paths s t (edit_error.Decode id) plain c = c
+-- the trees of a directory, where an output has them
+pub trees_begun : (s t : StoreState) (directory : Directory) (o : Output) (n : ℕ) → o ≡ output_of s.hash directory → Becomes (all_stored (take n o.trees) s) t → Grows (trees_of s.hash directory) s t
+trees_begun s t directory o n own b =
+    let are : o.trees ≡ trees_of s.hash directory = ap (λ (x : Output). x.trees) own in
+    record {
+      first = take n (trees_of s.hash directory);
+      rest = drop n (trees_of s.hash directory);
+      split = sym (take-append-drop n (trees_of s.hash directory));
+      becomes = subst (λ l. Becomes (all_stored (take n l) s) t) are b;
+    }
 
-begun : (paths : PathList) (s t : StoreState) (directory : Directory) → StandsFor directory (map_of paths) → BeginsTrees paths None s t → Grows (trees_of s.hash directory) s t
-begun paths s t directory stands b = record {
-  first = b.first;
-  rest = b.rest;
-  split = ap (trees_of s.hash) (same_directory directory b.directory stands b.stands) ∙ b.split;
-  becomes = b.becomes;
-}
-
-pub trees_begun : (paths : PathList) (s t : StoreState) (e : EditError) → has_zero paths ≡ false → WritePlainCauses paths None s t e → (directory : Directory) → StandsFor directory (map_of paths) → Grows (trees_of s.hash directory) s t
-trees_begun paths s t (edit_error.Store what.Write) plain c directory stands = begun paths s t directory stands c.0.begun
-trees_begun paths s t (edit_error.Store (what.Object id)) plain c directory stands = absurd (never c.0)
-  where
-    never : IsSome {T = Protect} None → ⊥
-    never h = cc
-trees_begun paths s t (edit_error.Store (what.Name name)) plain c directory stands = absurd c
-trees_begun paths s t (edit_error.Store what.Index) plain c directory stands = absurd c
-trees_begun paths s t (edit_error.Store what.Listing) plain c directory stands = absurd c
-trees_begun paths s t edit_error.NoMemory plain c directory stands = begun paths s t directory stands c
-trees_begun paths s t (edit_error.WriteObject field) plain c directory stands = absurd (of_store paths s t (edit_error.WriteObject field) plain c)
-trees_begun paths s t (edit_error.InvalidFilename filename k id source) plain c directory stands = absurd (of_store paths s t (edit_error.InvalidFilename filename k id source) plain c)
-trees_begun paths s t (edit_error.MissingObject filename k id) plain c directory stands = absurd (of_store paths s t (edit_error.MissingObject filename k id) plain c)
-trees_begun paths s t edit_error.EmptyPathComponent plain c directory stands = absurd c
-trees_begun paths s t (edit_error.FindExistingObject id) plain c directory stands = absurd c
-trees_begun paths s t (edit_error.ObjectKind id actual) plain c directory stands = absurd c
-trees_begun paths s t (edit_error.Decode id) plain c directory stands = absurd c
-
-pub trees_written : (paths : PathList) (s t : StoreState) (id : ObjectId) → WritesPlain paths None s id t → (directory : Directory) → StandsFor directory (map_of paths) → Becomes (all_stored (trees_of s.hash directory) s) t
-trees_written paths s t id w directory stands = subst (λ d. Becomes (all_stored (trees_of s.hash d) s) t) (same_directory w.directory directory w.stands stands) w.becomes
+pub trees_written : (s t : StoreState) (directory : Directory) (o : Output) → o ≡ output_of s.hash directory → Becomes (all_stored o.trees s) t → Becomes (all_stored (trees_of s.hash directory) s) t
+trees_written s t directory o own b = subst (λ (x : Output). Becomes (all_stored x.trees s) t) own b
 
 -- ---- blobs
 

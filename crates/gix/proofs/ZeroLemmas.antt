@@ -4,7 +4,7 @@ use Rattle.std.specs.List.{list_any}
 use Rattle.gx_rules.specs.Path.{at_front}
 use Rattle.gx_edit.specs.Path.{Path, components, path_eq}
 use Rattle.gx_edit.specs.PathList.{PathList, map_of}
-use Rattle.gx_edit.specs.WritePlain.{has_zero}
+use Rattle.gx_edit.specs.PathList.{has_zero}
 use Rattle.gx_edit.specs.declared.leaf.Leaf.{Leaf}
 use Rattle.gx_edit.proofs.PathLemmas.{path_eq-of}
 

@@ -9,7 +9,7 @@ use Rattle.gx_store.specs.Content.{Content, IsStored}
 use Rattle.gx_edit.specs.Path.{Path}
 use Rattle.gx_edit.specs.PathMap.{PathMap}
 use Rattle.gx_edit.specs.CanonicalTree.{Directory}
-use Rattle.gx_edit.specs.WritePlain.{is_link_kind}
+use Rattle.gx_edit.specs.Entries.{is_link_kind}
 use Rattle.gx_edit.specs.declared.leaf.Leaf.{Leaf}
 use Rattle.gix.specs.declared.settings.Settings.{Settings}
 use Rattle.gix.specs.CommitRequest.{CommitRequest}

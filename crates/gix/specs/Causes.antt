@@ -25,10 +25,10 @@ use Rattle.gx_store.specs.declared.target.Target.{Target}
 use Rattle.gx_store.specs.declared.target.Target.TheVariants as target
 use Rattle.gx_edit.specs.Path.{Path}
 use Rattle.gx_edit.specs.PathMap.{PathMap, path_of}
-use Rattle.gx_edit.specs.CanonicalTree.{Directory}
-use Rattle.gx_edit.specs.CheckPlain.{has_id}
+use Rattle.gx_edit.specs.CanonicalTree.{Directory, entries_within}
+use Rattle.gx_hash.specs.ObjectIds.{has_id}
+use Rattle.gx_edit.specs.Entries.{IsEntry, is_link}
 use Rattle.gx_edit.specs.ReadMapCauses.{IsAtOrBelow, HasNoMap}
-use Rattle.gx_edit.specs.WritePlain.{IsEntry, is_link, entries_within}
 use Rattle.gx_edit.specs.declared.path_edit.PathEdit.{PathEdit}
 use Rattle.gx_refs.specs.Chain.{EndsIn, Cycles, IsTooDeep, IsOnChain}
 use Rattle.gix.specs.declared.settings.Settings.{Settings}

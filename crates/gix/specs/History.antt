@@ -6,7 +6,7 @@ use Rattle.gx_hash.specs.declared.kind.HashKind.{HashKind}
 use Rattle.gx_hash.specs.declared.oid.ObjectId.{ObjectId}
 use Rattle.gx_hash.specs.ObjectId.{bytes_of, hex_of, id_from_bytes}
 use Rattle.gx_object.specs.declared.kind.Kind.{Kind}
-use Rattle.gx_object.specs.CommitSpelling.{IsHexId}
+use Rattle.gx_hash.specs.IdDigits.{IsHexId}
 use Rattle.gx_object.specs.WrittenText.{HasSeconds}
 use Rattle.gx_store.specs.Content.{Adds, AreApart}
 use Rattle.gx_edit.specs.PathMap.{PathMap, no_paths, edited}

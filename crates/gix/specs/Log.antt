@@ -8,6 +8,7 @@ parents_text [] = codes " (initial)"
 parents_text (x ∷ []) = []
 parents_text (x ∷ y ∷ xs) = codes " (merge)"
 
--- A commit is logged as `commit`, then ` (initial)` without a parent or ` (merge)` with more than one, then the summary of its message. (git-reflog(1); Git, builtin/commit.c)
+-- A commit is logged as `commit`, then ` (initial)` without a parent or ` (merge)` with more than one, then `: ` and
+-- the summary of its message. (Git, builtin/commit.c. Ours: the summary; Git takes the first line of the message.)
 abbrev pub commit_log_message : {X : Type 0} → List X → List ℕ → List ℕ
 commit_log_message parents message = codes "commit" ++ parents_text parents ++ codes ": " ++ summary_of message

@@ -12,14 +12,12 @@ use Rattle.gx_store.specs.Content.{lookup, id_of}
 use Rattle.gx_store.specs.Change.{HaveDistinctNames}
 use Rattle.gx_store.specs.Kinds.{AreChangesOfKind, IsTargetOfKind}
 use Rattle.gx_store.specs.State.{StoreState, IsUnreadable}
-use Rattle.gx_store.specs.declared.error.StoreError.{StoreError}
-use Rattle.gx_store.specs.declared.error.StoreError.TheVariants as store_error
 use Rattle.gx_store.specs.declared.error.What.TheVariants as what
 use Rattle.gx_edit.specs.Path.{components}
+use Rattle.gx_edit.specs.Output.{Output, output_of}
 use Rattle.gx_edit.specs.PathList.{map_of, has_empty_name}
 use Rattle.gx_edit.specs.PathMap.{PathMap, edited, blobs_of, path_of}
-use Rattle.gx_edit.specs.WritePlain.{has_zero}
-use Rattle.gx_edit.specs.CanonicalTree.{Directory, StandsFor, root_of}
+use Rattle.gx_edit.specs.CanonicalTree.{Directory}
 use Rattle.gx_edit.specs.declared.error.EditError.{EditError}
 use Rattle.gx_edit.specs.declared.error.EditError.TheVariants as edit_error
 use Rattle.gx_edit.specs.declared.path_edit.PathEdit.{PathEdit}
@@ -77,11 +75,10 @@ IsGapIn path refusal = Unit {0}
 abbrev pub IsGapOf : PathEdit → EditError → Type 0
 IsGapOf edit refusal = IsGapIn (path_of edit) refusal
 
--- The objects of a request whose directory this is: its map, the ids of its blobs, and its commit with its id.
+-- The objects of a request whose directory this is: the ids of its blobs, its trees, and its commit with its id.
 pub record AreObjects (hash : HashKind) (r : CommitRequest) (directory : Directory) (objects : NewObjects) : Type 0 where
-  pub plain : has_zero objects.edited.map ≡ false
-  pub stands : StandsFor directory (map_of objects.edited.map)
-  pub blobs : objects.edited.blobs.items ≡ blob_ids hash r.edits
+  pub blobs : objects.blobs.items ≡ blob_ids hash r.edits
+  pub trees : objects.trees ≡ output_of hash directory
   pub commit : objects.commit ≡ commit_text hash r directory
   pub is_id : objects.id ≡ commit_id hash r directory
 
@@ -96,13 +93,11 @@ pub record IsEditedBy (r : CommitRequest) (state : StoreState) (result : Edited)
   pub edits : Edits r (view_of state) (map_of result.map)
   pub blobs : result.blobs.items ≡ blob_ids state.hash r.edits
 
--- the root of a directory whose trees may be written
-pub record IsRootOf (settings : Settings) (r : CommitRequest) (state : StoreState) (edited : Edited) (root : ObjectId) : Type 0 where
+-- the trees of a directory, which may be written
+pub record AreTreesOf (settings : Settings) (r : CommitRequest) (state : StoreState) (trees : Output) : Type 0 where
   pub directory : Directory
   pub may : MayWrite settings r (view_of state) directory
-  pub plain : has_zero edited.map ≡ false
-  pub stands : StandsFor directory (map_of edited.map)
-  pub is_root : root ≡ root_of state.hash directory
+  pub are : trees ≡ output_of state.hash directory
 
 -- why an identity is refused
 abbrev pub IdentityCauses : CommitRequest → CommitEditsError → Type 0
@@ -145,16 +140,3 @@ pub record IsPlan (settings : Settings) (r : CommitRequest) (state : StoreState)
   pub moves : Moves state.hash r state.references way plan.objects.id plan.changes.items
   pub names : HaveDistinctNames plan.changes.items
   pub kinds : AreChangesOfKind state.hash plan.changes.items
-
--- ---- writing
-
--- the error is one of a store
-abbrev pub IsOfStore : EditError → Type 0
-IsOfStore (edit_error.Store fault) = Unit {0}
-IsOfStore edit_error.NoMemory = Unit {0}
-IsOfStore refusal = ⊥
-
--- as the store's refusal
-abbrev pub as_store_error : EditError → StoreError
-as_store_error (edit_error.Store fault) = store_error.Fault fault
-as_store_error refusal = store_error.NoMemory

@@ -10,9 +10,9 @@ use Rattle.gx_store.specs.Content.{IsStored, id_of}
 use Rattle.gx_edit.specs.Path.{components}
 use Rattle.gx_edit.specs.PathMap.{PathMap, edited, blobs_of, path_of}
 use Rattle.gx_edit.specs.PathList.{has_empty_name}
-use Rattle.gx_edit.specs.CanonicalTree.{Directory, StandsFor, trees_of}
-use Rattle.gx_edit.specs.CheckPlain.{has_id}
-use Rattle.gx_edit.specs.WritePlain.{IsSafe, entries_within}
+use Rattle.gx_edit.specs.CanonicalTree.{Directory, StandsFor, trees_of, entries_within}
+use Rattle.gx_hash.specs.ObjectIds.{has_id}
+use Rattle.gx_edit.specs.Entries.{IsSafe}
 use Rattle.gx_edit.specs.declared.path_edit.PathEdit.{PathEdit}
 use Rattle.gix.specs.declared.settings.Settings.{Settings}
 use Rattle.gix.specs.CommitRequest.{CommitRequest}

@@ -91,6 +91,3 @@ fn commit_request<S: Store>(
     store.apply(alloc, &plan.changes)?;
     Ok(plan.objects.id)
 }
-
-#[cfg(test)]
-mod tests;

@@ -60,5 +60,5 @@ pub fn ids_are_whole(id: &ObjectId)
     ensures { IsWholeId (kind_of id.now) id.now }
 {
     gx_hash::laws::spellings_read_back(id);
-    gx_object::laws::id_has_digits(id);
+    gx_hash::laws::id_has_digits(id);
 }

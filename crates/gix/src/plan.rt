@@ -2,12 +2,12 @@
 
 ghost use Rattle.std.specs.Prelude.{◌≡◌, IfOk, IfErr, OnOk};
 ghost use Rattle.gx_object.specs.Commit.{plain_commit_bytes};
-ghost use Rattle.gx_edit.specs.CheckPlain.{has_id};
+ghost use Rattle.gx_hash.specs.ObjectIds.{has_id};
 ghost use Rattle.gx_hash.specs.declared.oid.ObjectId.{ObjectId};
 ghost use Rattle.gix.specs.declared.settings.Settings.{Settings};
 ghost use Rattle.gix.specs.CommitRequest.{asked, HaveModuleIds};
 ghost use Rattle.gix.specs.Admission.{AreWritable};
-ghost use Rattle.gix.specs.Stages.{StageCauses, IsEditedBy, IsRootOf, AreStorable, IsPlan, IdentityCauses};
+ghost use Rattle.gix.specs.Stages.{StageCauses, IsEditedBy, AreTreesOf, AreStorable, IsPlan, IdentityCauses};
 
 use crate::base::base_of;
 use crate::edits::{Edited, make_edits};
@@ -16,8 +16,8 @@ use crate::log::commit_log_message;
 use crate::reference::movable_chain;
 use crate::request::Request;
 use crate::{CommitEditsError, Settings};
-use gx_edit::{ObjectIds, check_plain};
-use gx_hash::{Bytes, NoMemory, ObjectId, object_id};
+use gx_edit::Output;
+use gx_hash::{Bytes, NoMemory, ObjectId, ObjectIds, object_id};
 use gx_object::{Kind, push_commit, unwritable_identity};
 use gx_refs::{WriteReflog, move_end};
 use gx_store::{Objects, RefChange, Store};
@@ -26,7 +26,9 @@ use std::alloc::Global;
 /// The objects that a commit brings.
 #[derive(Drop)]
 pub(crate) struct NewObjects {
-    pub(crate) edited: Edited,
+    /// The ids of the edits' blobs, in their order.
+    pub(crate) blobs: Vec<ObjectId>,
+    pub(crate) trees: Output,
     /// The bytes of the commit.
     pub(crate) commit: Bytes,
     pub(crate) id: ObjectId,
@@ -76,15 +78,21 @@ fn plan_objects<S: Objects>(
     ensures err { IfErr result (StageCauses settings (asked request.now) (S.state store.now)) }
 {
     let edited = edit_base(alloc, store, request)?;
-    let tree = check_trees(alloc, store, settings, request, &edited)?;
+    let trees = plan_trees(alloc, store, settings, request, &edited)?;
     check_identities(request)?;
-    let commit = commit_bytes(alloc, &tree, request)?;
+    let commit = commit_bytes(alloc, &trees.root(), request)?;
     let id = object_id(
         store.hash_kind(),
         Kind::Commit.as_bytes(),
         commit.as_slice(),
     );
-    Ok(NewObjects { edited, commit, id })
+    let Edited { map: _, blobs } = edited;
+    Ok(NewObjects {
+        blobs,
+        trees,
+        commit,
+        id,
+    })
 }
 
 /// The first two stages.
@@ -101,21 +109,25 @@ fn edit_base<S: Objects>(
     make_edits(alloc, store.hash_kind(), base, request.edits)
 }
 
-/// The third stage: the names in the trees, and what their entries name. Answers the root.
-fn check_trees<S: Objects>(
+/// The third stage: the trees, the names in them, and what their entries name.
+fn plan_trees<S: Objects>(
     alloc: Global,
     store: &S,
     settings: Settings,
     request: &Request<'_>,
     edited: &Edited,
-) -> Result<ObjectId, CommitEditsError>
+) -> Result<Output, CommitEditsError>
     requires { IsEditedBy (asked request.now) (S.state store.now) edited.now }
-    ensures ok { IfOk result (IsRootOf settings (asked request.now) (S.state store.now) edited.now) }
+    ensures ok { IfOk result (AreTreesOf settings (asked request.now) (S.state store.now)) }
     ensures err { IfErr result (StageCauses settings (asked request.now) (S.state store.now)) }
 {
     let blobs = ids_of(alloc, &edited.blobs)?;
-    match check_plain(alloc, store, &edited.map, settings.protect, &blobs) {
-        Ok(root) => Ok(root),
+    let trees = match edited.map.plan(alloc, store.hash_kind()) {
+        Ok(trees) => trees,
+        Err(refusal) => return Err(lifted(refusal)),
+    };
+    match trees.check(alloc, store, settings.protect, &blobs) {
+        Ok(()) => Ok(trees),
         Err(refusal) => Err(lifted(refusal)),
     }
 }

@@ -8,6 +8,13 @@ use gx_hash::HashKind;
 use gx_store::Store;
 
 /// A repository over a store: what reads it takes it by `&self`, what writes it by `&mut self`.
+///
+/// ```
+/// let mut repo = Repository::new(Memory::new(alloc, HashKind::Sha1)?, Settings::new());
+/// let main = FullName::new(alloc, b"refs/heads/main")?;
+/// let edits = [PathEdit::File { path, bytes, executable: false }];
+/// let id = repo.commit_edits(alloc, &who, &who, &main, b"Begin\n", &NO_PARENT_IDS, &edits)?;
+/// ```
 #[derive(Drop)]
 pub struct Repository<S> {
     pub(crate) store: S,

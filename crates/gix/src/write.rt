@@ -3,17 +3,15 @@
 ghost use Rattle.std.specs.Prelude.{◌≡◌, ◌++◌, ◌∷◌, [], ℕ, ◌≤◌, false, List, length, take, IfOk, OnOk, OnErr};
 ghost use Rattle.gx_hash.specs.declared.oid.ObjectId.{ObjectId};
 ghost use Rattle.gx_store.specs.State.{Becomes, HasCause, IfFault, all_stored};
-ghost use Rattle.gx_edit.specs.CanonicalTree.{Directory, StandsFor, trees_of};
-ghost use Rattle.gx_edit.specs.PathList.{map_of};
-ghost use Rattle.gx_edit.specs.WritePlain.{has_zero};
+ghost use Rattle.gx_edit.specs.CanonicalTree.{Directory};
 ghost use Rattle.gx_edit.specs.PathMap.{blobs_in, blobs_of};
 ghost use Rattle.gix.specs.CommitRequest.{asked};
 ghost use Rattle.gix.specs.CommitEdits.{Grows, written_objects};
-ghost use Rattle.gix.specs.Stages.{AreObjects, blob_ids, IsOfStore, as_store_error};
+ghost use Rattle.gix.specs.Stages.{AreObjects, blob_ids};
 
 use crate::plan::NewObjects;
 use crate::request::Request;
-use gx_edit::{EditError, PathEdit, PathMap, write_plain};
+use gx_edit::PathEdit;
 use gx_hash::ObjectId;
 use gx_object::Kind;
 use gx_store::{Objects, StoreError};
@@ -33,8 +31,8 @@ pub(crate) fn write_new<S: Objects>(
         → OnErr result (Grows (written_objects (S.state store.old).hash (asked request.now) directory) (S.state store.old) (S.state store.new)) }
     ensures fault { IfFault result (HasCause (S.state store.old) (S.state store.new)) }
 {
-    write_blobs(alloc, store, request.edits, &objects.edited.blobs)?;
-    write_trees(alloc, store, &objects.edited.map)?;
+    write_blobs(alloc, store, request.edits, &objects.blobs)?;
+    objects.trees.store(alloc, store)?;
     store.write(alloc, objects.id, Kind::Commit, objects.commit.as_slice())
 }
 
@@ -77,31 +75,5 @@ fn write_blob<'a, S: Objects>(
             Ok(rest)
         }
         _ => Ok(ids),
-    }
-}
-
-/// Stores the trees of a map.
-fn write_trees<S: Objects>(alloc: Global, store: &mut S, map: &PathMap) -> Result<(), StoreError>
-    requires plain { has_zero map.now ≡ false }
-    requires stands { (directory : Directory) × StandsFor directory (map_of map.now) }
-    ensures ok { (directory : Directory) → StandsFor directory (map_of map.now) → OnOk result (Becomes (all_stored (trees_of (S.state store.old).hash directory) (S.state store.old)) (S.state store.new)) }
-    ensures err { (directory : Directory) → StandsFor directory (map_of map.now) → OnErr result (Grows (trees_of (S.state store.old).hash directory) (S.state store.old) (S.state store.new)) }
-    ensures fault { IfFault result (HasCause (S.state store.old) (S.state store.new)) }
-{
-    match write_plain(alloc, store, map, None) {
-        Ok(_) => Ok(()),
-        Err(refusal) => Err(as_store_error(refusal)),
-    }
-}
-
-/// A refusal that only a store gave.
-fn as_store_error(refusal: EditError) -> StoreError
-    requires { IsOfStore refusal }
-    ensures { result ≡ as_store_error refusal }
-{
-    match refusal {
-        EditError::Store { what } => StoreError::Fault { what },
-        EditError::NoMemory => StoreError::NoMemory,
-        _ => unreachable!(),
     }
 }

@@ -4,7 +4,7 @@ use Rattle.std.specs.Prelude.{◌↔◌, IsTrue}
 use Rattle.std.specs.List.{AllByRecursion}
 use Rattle.gx_object.specs.declared.tree.EntryKind.{EntryKind}
 use Rattle.gx_object.specs.declared.tree.EntryKind.TheVariants.{Tree, Blob, BlobExecutable, Link, Commit}
-use Rattle.gx_edit.specs.WritePlain.{is_link_kind}
+use Rattle.gx_edit.specs.Entries.{is_link_kind}
 
 pub link_is : (b : Bool) (k : EntryKind) → (IsTrue b ↔ (k ≡ Link)) → b ≡ is_link_kind k
 link_is true Link h = refl

@@ -13,7 +13,7 @@ use Rattle.gx_object.specs.Mode.{mode_of}
 use Rattle.gx_edit.specs.Path.{Path, path_eq, IsName}
 use Rattle.gx_edit.specs.CanonicalTree.{Directory, leaf_at, Follow, IsBelow, IsCanonical, IsLeafMode, entries_of, tree_of, trees_below, root_of}
 use Rattle.gx_edit.specs.CanonicalTree.Directory.{End, File, Sub}
-use Rattle.gx_edit.specs.WritePlain.{entries_within}
+use Rattle.gx_edit.specs.CanonicalTree.{entries_within}
 use Rattle.gx_edit.specs.declared.leaf.Leaf.{Leaf}
 use Rattle.gx_edit.proofs.PathLemmas.{bytes_eq-is, bytes_eq-of}
 use Rattle.gx_edit.proofs.DirectoryLemmas.{bytes_eq-no, leaf_at-root}

@@ -11,7 +11,7 @@ use Rattle.gx_edit.specs.PathList.{PathList, map_of, IsPathMap, IsRising}
 use Rattle.gx_edit.specs.PathTexts.{leaf_at_text}
 use Rattle.gx_edit.specs.CanonicalTree.{Directory, IsBelow, StandsFor}
 use Rattle.gx_edit.specs.CanonicalTree.Directory.{End}
-use Rattle.gx_edit.specs.WritePlain.{has_zero}
+use Rattle.gx_edit.specs.PathList.{has_zero}
 use Rattle.gx_edit.specs.declared.leaf.Leaf.{Leaf}
 use Rattle.gx_edit.proofs.PathLemmas.{path_eq-is, path_eq-of}
 use Rattle.gx_edit.proofs.DirectoryLemmas.{below-irrefl, bytes_eq-no}

@@ -1,7 +1,7 @@
 pub mod AboveLemmas
 pub mod CauseLemmas
 pub mod CheckLemmas
-pub mod CheckPlainLemmas
+pub mod CheckOutputLemmas
 pub mod ComponentLemmas
 pub mod DirectoryJoins
 pub mod DirectoryLemmas
@@ -17,8 +17,8 @@ pub mod MapTreeLemmas
 pub mod NeededLemmas
 pub mod OpenLemmas
 pub mod OrderLemmas
+pub mod OutputLemmas
 pub mod PathLemmas
-pub mod PlainLemmas
 pub mod PlanLemmas
 pub mod ReadMapLemmas
 pub mod ReadingLemmas
@@ -28,4 +28,3 @@ pub mod RowsLemmas
 pub mod StoringLemmas
 pub mod TextLemmas
 pub mod WeightLemmas
-pub mod WritePlainLemmas

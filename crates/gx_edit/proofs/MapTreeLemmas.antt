@@ -1,5 +1,5 @@
 -- The trees of a map: what stands at or below its root is one of them, and nothing is wrong with it.
-use Rattle.std.proofs.Common.{◌≡◌, ◌≢◌, ◌<◌, ◌≤◌, ◌+◌, ◌++◌, ◌⊎◌, inl, inr, ⊎_elim, ℕ, suc, zero, true, List, [], ◌∷◌, map, Contains, Option, Some, refl, sym, ap, ◌∙◌, subst, true≢false, arith}
+use Rattle.std.proofs.Common.{◌≡◌, ◌≢◌, ◌<◌, ◌≤◌, ◌+◌, ◌++◌, inl, inr, ⊎_elim, ℕ, suc, zero, true, List, [], ◌∷◌, map, Contains, Option, Some, refl, sym, ap, ◌∙◌, subst, true≢false, arith}
 use Rattle.std.specs.List.{AllByRecursion}
 use Rattle.std.specs.List.Sorted.{IsStrictlySortedBy}
 use Rattle.std.specs.declared.cmp.Ordering.TheVariants.{Less}
@@ -17,13 +17,12 @@ use Rattle.gx_object.specs.Kind.{kind_name}
 use Rattle.gx_object.specs.Mode.{mode_of, is_tree_mode}
 use Rattle.gx_object.specs.Tree.{tree_bytes, sort_key}
 use Rattle.gx_object.specs.TreeSpelling.{SpellsTree}
-use Rattle.gx_object.proofs.TreeFronts.{tree_once}
-use Rattle.gx_object.proofs.WrittenTrees.{written_tree}
+use Rattle.gx_object.specs.Laws.{tree_once, written_tree}
 use Rattle.gx_store.specs.Content.{Content, lookup, HoldsAll}
 use Rattle.gx_edit.specs.PathMap.{PathMap}
 use Rattle.gx_edit.specs.CanonicalTree.{Directory, Follow, IsCanonical, IsLeafMode, Represents, entries_of, tree_of, root_of, trees_below, trees_of}
 use Rattle.gx_edit.specs.CanonicalTree.Directory.{End, File, Sub}
-use Rattle.gx_edit.specs.WritePlain.{entries_within}
+use Rattle.gx_edit.specs.CanonicalTree.{entries_within}
 use Rattle.gx_edit.specs.SharedIds.{HasIdsOf, HasNoNullId}
 use Rattle.gx_edit.specs.ReadMapCauses.{IsSound, AreRising, HaveOwnNames, SpellsCanonically, HasSubtree, IsAtOrBelow, HasNoMap}
 use Rattle.gx_edit.specs.ReadMapCauses.IsAtOrBelow.{here, below}

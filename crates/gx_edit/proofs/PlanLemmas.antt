@@ -12,10 +12,10 @@ use Rattle.gx_object.specs.Tree.{entry_bytes, tree_bytes}
 use Rattle.gx_edit.specs.Path.{Path}
 use Rattle.gx_edit.specs.CanonicalTree.{Directory, IsCanonical, Follow, entries_of, root_of, tree_of, trees_below}
 use Rattle.gx_edit.specs.CanonicalTree.Directory.{End, File, Sub}
-use Rattle.gx_edit.specs.WritePlain.{entries_within}
+use Rattle.gx_edit.specs.CanonicalTree.{entries_within}
 use Rattle.gx_edit.specs.Planning.{under, leaves_of, goes_into, run, Made, planned, with_tree, with_entry}
 use Rattle.gx_edit.specs.declared.leaf.Leaf.{Leaf}
-use Rattle.gx_edit.specs.declared.writing.plan.PlannedTree.{PlannedTree}
+use Rattle.gx_edit.specs.declared.output.PlannedTree.{PlannedTree}
 use Rattle.gx_edit.proofs.PathLemmas.{bytes_eq-of}
 use Rattle.gx_edit.proofs.DirectoryLemmas.{bytes_eq-no}
 

@@ -5,7 +5,7 @@ use Rattle.std.specs.List.{AllByRecursion}
 use Rattle.gx_hash.specs.declared.kind.HashKind.{HashKind}
 use Rattle.gx_hash.specs.ObjectId.{bytes_of, id_from_bytes, null_id}
 use Rattle.gx_edit.specs.SharedIds.{HasIdsOf, HasNoNullId}
-use Rattle.gx_edit.specs.WritePlain.{entries_within}
+use Rattle.gx_edit.specs.CanonicalTree.{entries_within}
 use Rattle.gx_object.specs.declared.tree.Entry.{Entry}
 use Rattle.gx_hash.specs.HashKind.{kind_of}
 use Rattle.gx_edit.specs.Path.{Path, leads_to, IsName}

@@ -1,4 +1,4 @@
--- What was checked of a map still holds when it is written.
+-- What was checked of trees still holds when they are written.
 use Rattle.std.proofs.Common.{◌≡◌, ◌≢◌, ◌∙◌, sym, ap, refl, subst, ℕ, Bool, true, false, true≢false, ◌||◌, cond, List, [], ◌∷◌, map, Option, Some, None, IsSome, IfSome, Contains}
 use Rattle.std.specs.Prelude.{option_map}
 use Rattle.std.specs.Option.{option_or}
@@ -12,16 +12,16 @@ use Rattle.gx_object.specs.declared.kind.Kind.{Kind}
 use Rattle.gx_object.specs.declared.tree.Entry.{Entry}
 use Rattle.gx_object.specs.declared.tree.EntryKind.TheVariants as entry_kind
 use Rattle.gx_object.specs.Mode.{kind_of_mode}
-use Rattle.gx_store.specs.Content.{Content, IsStored, id_eq, id_of, object_at, with_objects}
+use Rattle.gx_hash.specs.ObjectIds.{id_eq, has_id}
+use Rattle.gx_store.specs.Content.{Content, IsStored, id_of, object_at, with_objects}
 use Rattle.gx_store.specs.State.{StoreState, Becomes, all_stored}
 use Rattle.gx_store.proofs.ContentLemmas.{writing_adds}
-use Rattle.gx_edit.specs.PathList.{PathList, map_of}
-use Rattle.gx_edit.specs.CanonicalTree.{Directory, StandsFor, trees_of}
-use Rattle.gx_edit.specs.CheckPlain.{has_id, IsNeeded, MayBeWritten, IsReady, IsOfStore}
-use Rattle.gx_edit.specs.WritePlain.{entries_within, is_link, IsSafe, SomeEntry, StoresTrees, WritePlainCauses}
+use Rattle.gx_edit.specs.CheckOutput.{IsNeeded, MayBeWritten, IsReady, IsOfStore}
+use Rattle.gx_edit.specs.Entries.{is_link, IsSafe}
+use Rattle.gx_edit.specs.Output.{Output}
+use Rattle.gx_edit.specs.Writing.{StoresTrees, WriteCauses}
 use Rattle.gx_edit.specs.declared.error.EditError.{EditError}
 use Rattle.gx_edit.specs.declared.error.EditError.TheVariants as error
-use Rattle.gx_edit.proofs.DirectoryLemmas.{one_directory}
 
 -- ---- what is stored once objects are written
 
@@ -63,57 +63,43 @@ made_ready given objects before checked ready ids told b = record {
 
 -- ---- the entries that were checked
 
-module _ (paths : PathList) (protect : Protect) (given : List ObjectId) (checked ready : StoreState) (m : MayBeWritten paths protect given checked) (r : IsReady given checked ready) where
-  same : (d : Directory) → StandsFor d (map_of paths) → d ≡ m.directory
-  same d stands = one_directory d m.directory stands.canonical m.stands.canonical (λ p. stands.leaves p ∙ sym (m.stands.leaves p))
-
-  checked_entry : {P : Entry → Type 0} (x : SomeEntry paths ready.hash P) → Contains (entries_within checked.hash m.directory) x.entry
-  checked_entry x = subst (λ d. Contains (entries_within checked.hash d) x.entry) (same x.directory x.stands) (subst (λ h. Contains (entries_within h x.directory) x.entry) r.same_hash x.within)
-
-  passes : (e : Entry) → Contains (entries_within checked.hash m.directory) e → IsComponent e.filename (is_link e) protect
-  passes e among = All-contains (IsSafe (Some protect)) (entries_within checked.hash m.directory) e (All-from_recursion (IsSafe (Some protect)) (entries_within checked.hash m.directory) m.safe) among
+module _ (o : Output) (protect : Protect) (given : List ObjectId) (checked ready : StoreState) (own : o.hash ≡ checked.hash) (m : MayBeWritten o protect given checked) (r : IsReady given checked ready) where
+  passes : (e : Entry) → Contains o.entries e → IsComponent e.filename (is_link e) protect
+  passes e among = All-contains (IsSafe (Some protect)) o.entries e (All-from_recursion (IsSafe (Some protect)) o.entries m.safe) among
 
   abbrev Found : Entry → Type 0
-  Found e = IsNeeded paths checked.hash given e → IfSome checked.content (λ content. IsStored content e.oid)
+  Found e = IsNeeded o given e → IfSome checked.content (λ content. IsStored content e.oid)
 
-  found : (e : Entry) → Contains (entries_within checked.hash m.directory) e → kind_of_mode e.mode.value ≢ entry_kind.Commit → IsStored (with_objects checked.hash (trees_of checked.hash m.directory) r.after) e.oid
-  found e among other = go (has_id given e.oid) refl (has_id (map (id_of checked.hash) (trees_of checked.hash m.directory)) e.oid) refl
+  found : (e : Entry) → Contains o.entries e → kind_of_mode e.mode.value ≢ entry_kind.Commit → IsStored (with_objects o.hash o.trees r.after) e.oid
+  found e among other = go (has_id given e.oid) refl (has_id (map (id_of o.hash) o.trees) e.oid) refl
     where
       stored : Found e
-      stored = All-contains Found (entries_within checked.hash m.directory) e (All-from_recursion Found (entries_within checked.hash m.directory) m.stored) among
+      stored = All-contains Found o.entries e (All-from_recursion Found o.entries m.stored) among
 
-      before : IsNeeded paths checked.hash given e → IsStored r.before e.oid
+      before : IsNeeded o given e → IsStored r.before e.oid
       before needed = subst (λ told. IfSome told (λ content. IsStored content e.oid)) r.told_before (stored needed)
 
-      after : IsStored r.after e.oid → IsStored (with_objects checked.hash (trees_of checked.hash m.directory) r.after) e.oid
-      after there = stored_kept checked.hash (trees_of checked.hash m.directory) r.after e.oid there
+      after : IsStored r.after e.oid → IsStored (with_objects o.hash o.trees r.after) e.oid
+      after there = stored_kept o.hash o.trees r.after e.oid there
 
-      go : (b : Bool) → has_id given e.oid ≡ b → (t : Bool) → has_id (map (id_of checked.hash) (trees_of checked.hash m.directory)) e.oid ≡ t → IsStored (with_objects checked.hash (trees_of checked.hash m.directory) r.after) e.oid
-      go true is t own = after (r.brought e.oid is)
-      go false is true own = stored_brought checked.hash (trees_of checked.hash m.directory) r.after e.oid own
-      go false is false own = after (r.kept e.oid (before (record {
-        no_submodule = other;
-        not_given = is;
-        no_tree = λ x. true≢false (sym x.among ∙ ap (λ d. has_id (map (id_of checked.hash) (trees_of checked.hash d)) e.oid) (same x.directory x.stands) ∙ own);
-      })))
+      go : (b : Bool) → has_id given e.oid ≡ b → (t : Bool) → has_id (map (id_of o.hash) o.trees) e.oid ≡ t → IsStored (with_objects o.hash o.trees r.after) e.oid
+      go true is t among = after (r.brought e.oid is)
+      go false is true among = stored_brought o.hash o.trees r.after e.oid among
+      go false is false among = after (r.kept e.oid (before (record { no_submodule = other; not_given = is; no_tree = among })))
 
-  told_new : (new : StoreState) → StoresTrees paths (Some protect) ready new → new.content ≡ Some (with_objects checked.hash (trees_of checked.hash m.directory) r.after)
+  told_new : (new : StoreState) → StoresTrees o (Some protect) ready new → new.content ≡ Some (with_objects o.hash o.trees r.after)
   told_new new x =
-      ap (λ (s : StoreState). s.content) x.becomes.same
-      ∙ ap (option_map (with_objects ready.hash (trees_of ready.hash x.directory))) r.told_after
-      ∙ ap (λ h. Some (with_objects h (trees_of h x.directory) r.after)) r.same_hash
-      ∙ ap (λ d. Some (with_objects checked.hash (trees_of checked.hash d) r.after)) (same x.directory x.stands)
+      ap (λ (s : StoreState). s.content) x.becomes.same ∙ ap (option_map (with_objects ready.hash o.trees)) r.told_after ∙ ap (λ h. Some (with_objects h o.trees r.after)) (r.same_hash ∙ sym own)
 
-  pub no_fault : (new : StoreState) (e : EditError) → WritePlainCauses paths (Some protect) ready new e → IsOfStore e
+  pub no_fault : (new : StoreState) (e : EditError) → WriteCauses o (Some protect) ready new e → IsOfStore e
   no_fault new error.EmptyPathComponent c = c
   no_fault new (error.FindExistingObject id) c = c
   no_fault new (error.ObjectKind id actual) c = c
   no_fault new (error.Decode id) c = c
-  no_fault new (error.InvalidFilename filename kind id source) c = passes c.1.entry (checked_entry c.1) source c.1.is.1.violated
+  no_fault new (error.InvalidFilename filename kind id source) c = passes c.1.entry c.1.among source c.1.is.1.broken
   no_fault new (error.MissingObject filename kind id) c =
       subst (λ told. IfSome told (λ content. IsStored content id → ⊥)) (told_new new c.1) c.2.is.2
-      (subst (IsStored (with_objects checked.hash (trees_of checked.hash m.directory) r.after)) (sym c.2.is.0.is_id)
-      (found c.2.entry (checked_entry c.2) (λ is. c.2.is.1 (c.2.is.0.of_kind ∙ is))))
-  no_fault new (error.WriteObject field) c = true≢false (sym c.1 ∙ m.writable)
+      (subst (IsStored (with_objects o.hash o.trees r.after)) (sym c.2.is.0.is_id) (found c.2.entry c.2.among (λ is. c.2.is.1 (c.2.is.0.of_kind ∙ is))))
+  no_fault new (error.WriteObject field) c = c
   no_fault new (error.Store fault) c = tt
   no_fault new error.NoMemory c = tt

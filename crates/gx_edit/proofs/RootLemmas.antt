@@ -1,5 +1,5 @@
 -- Directories with one root are one, unless two of their trees share an id.
-use Rattle.std.proofs.Common.{◌≡◌, ◌≢◌, ◌<◌, ◌+◌, ◌==◌, ◌^◌, ◌⊎◌, inl, inr, ℕ, suc, zero, Bool, true, false, cond, List, [], ◌∷◌, ◌++◌, length, All, Contains, Some, None, refl, sym, ap, ◌∙◌, subst, true≢false, not, ◌&&◌, ne_eqb, arith}
+use Rattle.std.proofs.Common.{◌≡◌, ◌<◌, ◌==◌, ◌^◌, ◌⊎◌, inl, inr, ℕ, suc, zero, Bool, true, false, cond, List, [], ◌∷◌, ◌++◌, length, All, Contains, Some, None, refl, sym, ap, ◌∙◌, subst, true≢false, not, ◌&&◌, ne_eqb, arith}
 use Rattle.std.specs.Str.{bytes_eq}
 use Rattle.std.specs.List.{list_all}
 use Rattle.std.proofs.Math.ListN.{get_or-append}
@@ -8,7 +8,7 @@ use Rattle.std.proofs.lemmas.List.Elements.{All-cons, All-nil}
 use Rattle.gx_hash.specs.declared.kind.HashKind.{HashKind}
 use Rattle.gx_hash.specs.declared.oid.ObjectId.{ObjectId}
 use Rattle.gx_hash.specs.ObjectId.{bytes_of, id_from_bytes}
-use Rattle.gx_hash.proofs.DigestLemmas.{object_id_is_whole}
+use Rattle.gx_hash.specs.Laws.{object_id_is_whole}
 use Rattle.gx_object.specs.declared.kind.Kind.{Kind}
 use Rattle.gx_object.specs.declared.kind.Kind.TheVariants as kind
 use Rattle.gx_object.specs.declared.tree.Entry.{Entry}
@@ -17,8 +17,7 @@ use Rattle.gx_object.specs.Kind.{kind_name}
 use Rattle.gx_object.specs.Mode.{mode_of}
 use Rattle.gx_object.specs.Tree.{tree_bytes, is_writable_filename}
 use Rattle.gx_object.specs.TreeSpelling.{HasSpelling, SpellsTree}
-use Rattle.gx_object.proofs.TreeFronts.{tree_once}
-use Rattle.gx_object.proofs.WrittenTrees.{written_tree}
+use Rattle.gx_object.specs.Laws.{tree_once, written_tree}
 use Rattle.gx_store.specs.Content.{Content, lookup, id_of, HoldsAll}
 use Rattle.gx_edit.specs.Path.{Path, IsName}
 use Rattle.gx_edit.specs.PathMap.{PathMap}

@@ -9,7 +9,7 @@ use Rattle.gx_store.specs.Content.{Content, id_of, with_objects}
 use Rattle.gx_store.specs.State.{StoreState, Becomes, all_stored, stored}
 use Rattle.gx_store.proofs.Growth.{goes_on}
 use Rattle.gx_edit.specs.Planning.{ArePlanned, objects_of}
-use Rattle.gx_edit.specs.declared.writing.plan.PlannedTree.{PlannedTree}
+use Rattle.gx_edit.specs.declared.output.PlannedTree.{PlannedTree}
 
 pub id_planned : (trees : List PlannedTree) (i : ℕ) (tree : PlannedTree) (bytes : List ℕ) (s t : StoreState) → ArePlanned s.hash trees → Becomes (all_stored (take i (objects_of trees)) s) t
     → i < length trees → tree ≡ get_or trees i tree → bytes ≡ tree.bytes → tree.id ≡ id_of t.hash (object_kind.Tree, bytes)

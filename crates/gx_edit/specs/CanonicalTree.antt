@@ -80,6 +80,12 @@ trees_below hash (Sub n inner rest) = (trees_below hash inner ++ tree_of hash in
 abbrev pub trees_of : HashKind → Directory → List (Kind × List ℕ)
 trees_of hash directory = trees_below hash directory ++ tree_of hash directory ∷ []
 
+-- the entries of all trees of a directory; the entry of a directory below comes after those in it
+abbrev pub entries_within : HashKind → Directory → List Entry
+entries_within hash End = []
+entries_within hash (File n leaf rest) = record { mode = leaf.mode; filename = n; oid = leaf.id } ∷ entries_within hash rest
+entries_within hash (Sub n inner rest) = entries_within hash inner ++ record { mode = record { value = mode_of entry_kind.Tree }; filename = n; oid = root_of hash inner } ∷ entries_within hash rest
+
 -- A tree represents a path map in a content where it is the root of the map's canonical directory, and all trees of that directory are stored. (Git, "Git Internals - Git Objects", "Tree Objects")
 pub record Represents (hash : HashKind) (content : Content) (tree : ObjectId) (m : PathMap) : Type 0 where
   pub directory : Directory

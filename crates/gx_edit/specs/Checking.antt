@@ -9,8 +9,8 @@ use Rattle.gx_object.specs.Mode.{kind_of_mode}
 use Rattle.gx_store.specs.Content.{IsStored}
 use Rattle.gx_store.specs.State.{StoreState}
 use Rattle.gx_store.specs.declared.error.What.TheVariants as what
-use Rattle.gx_edit.specs.CheckPlain.{has_id}
-use Rattle.gx_edit.specs.WritePlain.{IsEntry, IsComplete, is_link}
+use Rattle.gx_hash.specs.ObjectIds.{has_id}
+use Rattle.gx_edit.specs.Entries.{IsEntry, IsComplete, is_link}
 use Rattle.gx_edit.specs.declared.error.EditError.{EditError}
 use Rattle.gx_edit.specs.declared.error.EditError.TheVariants.{InvalidFilename, MissingObject, Store, NoMemory}
 

@@ -1,5 +1,5 @@
 -- Path maps as lists: the paths as they are written, in byte order, each with its leaf.
-use Rattle.std.specs.Prelude.{◌≡◌, ◌≢◌, ℕ, Bool, true, false, if◌then◌else◌, List, [], ◌∷◌, Some, None, IsSome, IsTrue, Contains, bytes_eq, map}
+use Rattle.std.specs.Prelude.{◌≡◌, ◌≢◌, ℕ, Bool, true, false, ◌==◌, if◌then◌else◌, List, [], ◌∷◌, Some, None, IsSome, IsTrue, Contains, bytes_eq, map}
 use Rattle.std.specs.List.{AllByRecursion, list_any}
 use Rattle.std.specs.List.Sorted.{IsStrictlySortedBy}
 use Rattle.gx_hash.specs.declared.oid.ObjectId.{ObjectId}
@@ -46,6 +46,10 @@ pub record IsPathMap (m : PathMap) : Type 0 where
 -- the written paths rise in the order of their bytes
 abbrev pub IsRising : PathList → Type 0
 IsRising rows = IsStrictlySortedBy name_cmp (map (λ row. row.0) rows)
+
+-- A path of the map holds a zero byte. No tree can spell that, since a zero byte ends a name there. (Git, "Git Internals - Git Objects", "Tree Objects")
+abbrev pub has_zero : PathList → Bool
+has_zero paths = list_any (λ row. list_any (λ b. b == 0) row.0) paths
 
 -- a component of the path is empty
 abbrev pub has_empty_name : Path → Bool

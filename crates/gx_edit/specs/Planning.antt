@@ -9,13 +9,12 @@ use Rattle.gx_object.specs.declared.tree.Entry.{Entry}
 use Rattle.gx_store.specs.Content.{id_of}
 use Rattle.gx_edit.specs.Path.{Path, components}
 use Rattle.gx_edit.specs.PathList.{PathList}
-use Rattle.gx_edit.specs.CanonicalTree.{Directory, root_of, trees_of}
+use Rattle.gx_edit.specs.CanonicalTree.{Directory, root_of, trees_of, entries_within}
 use Rattle.gx_edit.specs.CanonicalTree.Directory.{End, File, Sub}
-use Rattle.gx_edit.specs.WritePlain.{entries_within}
 use Rattle.gx_edit.specs.declared.leaf.Leaf.{Leaf}
 use Rattle.gx_edit.specs.declared.path_map.entries.PathEntry.{PathEntry}
 use Rattle.gx_edit.specs.declared.writing.groups.Row.{Row}
-use Rattle.gx_edit.specs.declared.writing.plan.PlannedTree.{PlannedTree}
+use Rattle.gx_edit.specs.declared.output.PlannedTree.{PlannedTree}
 use Rattle.gx_edit.specs.declared.writing.plan.Plan.{Plan}
 
 -- ---- the leaves of a directory, in turn

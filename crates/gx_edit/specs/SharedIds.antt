@@ -9,8 +9,7 @@ use Rattle.gx_object.specs.declared.kind.Kind.{Kind}
 use Rattle.gx_store.specs.Content.{id_of}
 use Rattle.gx_edit.specs.Path.{Path}
 use Rattle.gx_edit.specs.PathMap.{PathMap}
-use Rattle.gx_edit.specs.CanonicalTree.{Directory, StandsFor}
-use Rattle.gx_edit.specs.WritePlain.{entries_within}
+use Rattle.gx_edit.specs.CanonicalTree.{Directory, StandsFor, entries_within}
 use Rattle.gx_edit.specs.declared.leaf.Leaf.{Leaf}
 
 -- each leaf's id has as many bytes as ids of the kind have

@@ -9,9 +9,11 @@ ghost use Rattle.gx_store.specs.Content.{Content, id_of};
 ghost use Rattle.gx_store.specs.State.{StoreState, Becomes, all_stored};
 ghost use Rattle.gx_edit.specs.Path.{Path};
 ghost use Rattle.gx_edit.specs.PathMap.{PathMap};
-ghost use Rattle.gx_edit.specs.PathList.{PathList, IsPathMap, IsRising, map_of};
-ghost use Rattle.gx_edit.specs.CheckPlain.{has_id, MayBeWritten, IsReady, IsOfStore};
-ghost use Rattle.gx_edit.specs.WritePlain.{has_zero, WritePlainCauses};
+ghost use Rattle.gx_edit.specs.PathList.{PathList, IsPathMap, IsRising, map_of, has_zero};
+ghost use Rattle.gx_hash.specs.ObjectIds.{has_id};
+ghost use Rattle.gx_edit.specs.Output.{Output};
+ghost use Rattle.gx_edit.specs.CheckOutput.{MayBeWritten, IsReady, IsOfStore};
+ghost use Rattle.gx_edit.specs.Writing.{WriteCauses};
 ghost use Rattle.gx_edit.specs.CanonicalTree.{Directory, StandsFor, Represents, root_of, trees_of};
 ghost use Rattle.gx_edit.specs.SharedIds.{HasIdsOf, HasNoNullId, ShareAnId};
 ghost use Rattle.gx_edit.specs.ReadMapCauses.{IsStoredTree, IsAtOrBelow, HasNoMap};
@@ -52,9 +54,9 @@ pub fn represented_tree_has_a_map()
     ensures { (hash : HashKind) (content : Content) (root : ObjectId) (m : PathMap) → HasIdsOf hash m → HasNoNullId hash m → Represents hash content root m → (id : ObjectId) → IsAtOrBelow hash content root id → IsStoredTree content id × ¬ HasNoMap hash content root id }
 {}
 
-/// A map that may be written, as `check_plain` finds, has no fault for which `write_plain` with the same protections refuses it, once the state is ready.
-pub fn checked_map_has_no_fault()
-    ensures { (paths : PathList) (protect : Protect) (given : List ObjectId) (checked ready new : StoreState) (error : EditError) → MayBeWritten paths protect given checked → IsReady given checked ready → WritePlainCauses paths (Some protect) ready new error → IsOfStore error }
+/// Trees that may be written, as `check` finds, have no fault for which `write` with the same protections refuses them, once the state is ready.
+pub fn checked_output_has_no_fault()
+    ensures { (output : Output) (protect : Protect) (given : List ObjectId) (checked ready new : StoreState) (error : EditError) → output.hash ≡ checked.hash → MayBeWritten output protect given checked → IsReady given checked ready → WriteCauses output (Some protect) ready new error → IsOfStore error }
 {}
 
 /// Where objects of the given ids are stored, the state is ready for what was checked before.

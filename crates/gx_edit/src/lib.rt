@@ -8,19 +8,17 @@
 mod error;
 pub mod laws;
 mod leaf;
-mod object_ids;
+mod output;
 mod path;
 mod path_edit;
 mod path_map;
-#[cfg(test)]
-mod plain;
 mod stored_tree;
 mod writing;
 
 pub use error::EditError;
 pub use leaf::Leaf;
-pub use object_ids::ObjectIds;
+pub use output::Output;
 pub use path_edit::{PathEdit, PathEdits};
 pub use path_map::{PathEntries, PathEntry, PathMap};
 pub use stored_tree::read_map;
-pub use writing::{check_plain, write_plain};
+pub use writing::write_plain;

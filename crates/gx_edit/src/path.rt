@@ -30,24 +30,3 @@ pub(crate) fn split_first_name(path: &[u8]) -> Option<(&[u8], &[u8])>
         Some(at) => Some((&path[..at], &path[at + 1..])),
     }
 }
-
-#[cfg(test)]
-mod tests {
-    use super::*;
-
-    fn parts_into(path: &[u8], first: &[u8], rest: &[u8]) -> bool {
-        match split_first_name(path) {
-            Some((name, below)) => name == first && below == rest,
-            None => false,
-        }
-    }
-
-    #[test]
-    fn parts_a_path_at_its_first_slash(rt: HostRuntime) {
-        assert!(rt; parts_into(b"a/b/c", b"a", b"b/c"));
-        assert!(rt; parts_into(b"/a", b"", b"a"));
-        assert!(rt; parts_into(b"a/", b"a", b""));
-        assert!(rt; split_first_name(b"a").is_none());
-        assert!(rt; split_first_name(b"").is_none());
-    }
-}

@@ -1,8 +1,6 @@
 //! Path maps, edited one path at a time.
 
 mod entries;
-#[cfg(test)]
-mod tests;
 mod texts;
 
 use crate::{EditError, Leaf};
@@ -16,6 +14,13 @@ use std::marker::Model;
 /// Which leaf stands at each path of a tree: the files, links and submodules, and no directories, since these follow
 /// from the paths. A path is written with a slash between its names. Contracts see the list of the paths, in byte
 /// order.
+///
+/// ```
+/// let mut map = PathMap::new(alloc);
+/// map.put(b"docs/hello", EntryKind::Blob, id)?;
+/// let root = write_plain(alloc, &mut store, &map, None)?;
+/// let again = read_map(alloc, &store, root)?;
+/// ```
 #[derive(Drop)]
 pub struct PathMap {
     leaves: BTreeMap<Vec<u8>, Leaf>,

@@ -10,8 +10,6 @@ mod leaves;
 mod listing;
 mod open_tree;
 mod sort_key;
-#[cfg(test)]
-mod tests;
 
 use crate::{EditError, PathMap};
 use gx_hash::ObjectId;

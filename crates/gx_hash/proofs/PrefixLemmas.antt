@@ -2,7 +2,7 @@
 use Rattle.std.proofs.Common.{◌≡◌, ℕ, ◌+◌, ◌-◌, ◌*◌, ◌/◌, ◌%◌, ◌<◌, ◌≤◌, zero, suc, List, [], ◌∷◌, ◌++◌, length, take, drop, replicate, ap, refl, sym, ◌∙◌, arith}
 use Rattle.std.specs.Prelude.{slice_set, slice_index, slice_index_or}
 use Rattle.std.proofs.Math.Seq.{set-append_seam, take-append_seam, take-append-add, split_at}
-use Rattle.std.proofs.lemmas.List.{drop-replicate, length-append, length-take-le, length-drop, take-append-drop, append_assoc, take-replicate}
+use Rattle.std.proofs.lemmas.List.{drop-replicate, length-append, length-take-le, length-drop, take-append-drop, append_assoc, take-replicate, length-replicate, take_all}
 use Rattle.std.specs.Prelude.{◌↔◌}
 use Rattle.std.specs.declared.cmp.Ordering.{Ordering}
 use Rattle.std.specs.declared.cmp.Ordering.TheVariants.{Less, Equal, Greater}
@@ -11,7 +11,9 @@ use Rattle.std.specs.Cmp.Lexicographic.{slice_cmp, nat_list_cmp_total}
 use Rattle.std.specs.FinMap.{slice_cmp-IsAntisymmetric, nat_cmp-IsAntisymmetric}
 use Rattle.hex.specs.Hex.{encode_with, encode_lower, lower_digits}
 use Rattle.hex.proofs.HexLemmas.{length-encode_with}
-use Rattle.gx_hash.specs.Prefix.{padded}
+use Rattle.gx_hash.specs.declared.oid.ObjectId.{ObjectId}
+use Rattle.gx_hash.specs.ObjectId.{hex_of}
+use Rattle.gx_hash.specs.PrefixDigits.{padded, IsCut}
 
 encode-append : (t xs ys : List ℕ) → encode_with t (xs ++ ys) ≡ encode_with t xs ++ encode_with t ys
 unfolding encode_with
@@ -25,7 +27,7 @@ encode-zeros (suc n) =
     let twice : 2 * suc n ≡ suc (suc (2 * n)) = omega arith in
     rw (twice, encode-zeros n) refl
 
--- whole bytes, with zero bytes behind them
+-- whole bytes, with zero bytes after them
 even_parts : (a c : List ℕ) → encode_lower (a ++ replicate (length c) 0) ≡ padded (2 * length (a ++ c)) (take (2 * length a) (encode_lower (a ++ c)))
 unfolding encode_with
 even_parts a c =
@@ -37,7 +39,7 @@ even_parts a c =
     encode-append lower_digits a (replicate (length c) 0) ∙ ap (λ zeros. encode_lower a ++ zeros) (encode-zeros (length c))
     ∙ sym (rw (digits, left) refl)
 
--- the first digit of a byte behind whole bytes, with zeros behind it
+-- the first digit of a byte that follows whole bytes, with zeros after it
 odd_parts : (a c : List ℕ) (b : ℕ) → encode_lower (a ++ (b / 16 * 16) ∷ replicate (length c) 0) ≡ padded (2 * length (a ++ b ∷ c)) (take (2 * length a + 1) (encode_lower (a ++ b ∷ c)))
 unfolding encode_with
 odd_parts a c b =
@@ -109,3 +111,31 @@ own_reverse Greater e = cc
 -- lists that compare as equal are one
 pub equal_lists : (a b : List ℕ) → (slice_cmp nat_cmp a b ≡ Equal) ↔ (a ≡ b)
 equal_lists a b = (slice_cmp-IsAntisymmetric nat_cmp-IsAntisymmetric a b, λ same. rw (same) (own_reverse (slice_cmp nat_cmp b b) (nat_list_cmp_total.antisymm b b)))
+
+-- ---- an id that keeps some digits of another
+
+cut_digits : (whole cut : List ℕ) (n : ℕ) → n ≤ length whole → cut ≡ padded (length whole) (take n whole) → take n cut ≡ take n whole
+cut_digits whole cut n fits is =
+    ap (take n) is
+    ∙ ap (λ k. take k (take n whole ++ replicate (length whole - length (take n whole)) 48)) (sym (length-take-le n whole fits))
+    ∙ take-append_seam (take n whole) (replicate (length whole - length (take n whole)) 48)
+
+cut_length : (whole cut : List ℕ) (n : ℕ) → n ≤ length whole → cut ≡ padded (length whole) (take n whole) → length cut ≡ length whole
+cut_length whole cut n fits is =
+    ap length is ∙ length-append (take n whole) (replicate (length whole - length (take n whole)) 48)
+    ∙ omega (arith, fits, length-take-le n whole fits, length-replicate {A = ℕ} (length whole - length (take n whole)) 48)
+
+-- it is the least that begins with these digits
+pub cut_is : (id cut : ObjectId) (n len : ℕ) → 4 ≤ n → n ≤ len → length (hex_of id) ≡ len → hex_of cut ≡ padded (length (hex_of id)) (take n (hex_of id)) → IsCut n cut
+cut_is id cut n len least most size is =
+    let fits : n ≤ length (hex_of id) = omega (arith, most, size) in
+    let long : length (hex_of cut) ≡ length (hex_of id) = cut_length (hex_of id) (hex_of cut) n fits is in
+    record {
+      least = least;
+      most = omega (arith, fits, long);
+      zeros = is ∙ ap (λ l. padded l (take n (hex_of id))) (sym long) ∙ ap (padded (length (hex_of cut))) (sym (cut_digits (hex_of id) (hex_of cut) n fits is));
+    }
+
+-- and begins with the id's
+pub cut_begins : (id cut : ObjectId) (n len : ℕ) → n ≤ len → length (hex_of id) ≡ len → hex_of cut ≡ padded (length (hex_of id)) (take n (hex_of id)) → take n (hex_of cut) ≡ take n (hex_of id)
+cut_begins id cut n len most size is = cut_digits (hex_of id) (hex_of cut) n (omega (arith, most, size)) is

@@ -17,7 +17,8 @@ use Rattle.gx_hash.specs.declared.oid.ObjectId.TheVariants.{Sha1, Sha256}
 use Rattle.gx_hash.specs.declared.oid.HexError.{HexError}
 use Rattle.gx_hash.specs.declared.oid.HexError.TheVariants.{BadLength, BadDigit}
 
--- An object is hashed as its kind's name, a space, its size in decimal, a zero byte, and its bytes. (Git, "Git Internals - Git Objects")
+-- An object is hashed as its kind's name, a space, its size in decimal, a zero byte, and its bytes. (Git, "Git
+-- Internals - Git Objects")
 abbrev pub hashed_bytes : List ℕ → List ℕ → List ℕ
 hashed_bytes kind_name bytes = kind_name ++ 32 ∷ decimal (length bytes) ++ 0 ∷ bytes
 
@@ -58,10 +59,11 @@ abbrev pub null_id : HashKind → ObjectId
 null_id hash_kind.Sha1 = Sha1 (replicate 20 0)
 null_id hash_kind.Sha256 = Sha256 (replicate 32 0)
 
--- the ids of the tree without entries and of the blob without bytes
+-- the id of the tree without entries
 abbrev pub empty_tree_id : HashKind → ObjectId
 empty_tree_id hash = object_id hash (codes "tree") []
 
+-- the id of the blob without bytes
 abbrev pub empty_blob_id : HashKind → ObjectId
 empty_blob_id hash = object_id hash (codes "blob") []
 

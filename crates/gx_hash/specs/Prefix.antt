@@ -1,55 +1,54 @@
 -- Prefixes of ids: the first of an id's digits.
-use Rattle.std.specs.Prelude.{◌≡◌, ℕ, ◌*◌, ◌-◌, nat_lt, nat_le, List, ◌++◌, take, length, replicate, Option, Some, None, Result, Err, if◌then◌else◌}
-use Rattle.std.specs.Result.{result_map_both}
+use Rattle.std.specs.Prelude.{◌≡◌, ℕ, List, take, length, Option, Some, None, option_map, Result, Ok, Err, if◌then◌else◌}
+use Rattle.std.specs.Result.{result_err}
 use Rattle.gx_hash.specs.declared.kind.HashKind.{HashKind}
 use Rattle.gx_hash.specs.declared.oid.ObjectId.{ObjectId}
 use Rattle.gx_hash.specs.declared.oid.HexError.{HexError}
 use Rattle.gx_hash.specs.declared.oid.HexError.TheVariants as hex_error
 use Rattle.gx_hash.specs.declared.prefix.Prefix.{Prefix}
 use Rattle.gx_hash.specs.declared.prefix.PrefixError.{PrefixError}
-use Rattle.gx_hash.specs.declared.prefix.PrefixError.TheVariants.{TooLong, TooShort, BadDigit}
-use Rattle.gx_hash.specs.HashKind.{len_in_bytes}
+use Rattle.gx_hash.specs.declared.prefix.PrefixError.TheVariants.{TooLong, BadDigit}
+use Rattle.gx_hash.specs.HashKind.{kind_of}
 use Rattle.gx_hash.specs.ObjectId.{hex_of, id_from_hex}
+use Rattle.gx_hash.specs.PrefixDigits.{padded, length_error, room_for}
 
--- how many digits an id of the kind has
-abbrev pub len_in_hex : HashKind → ℕ
-len_in_hex hash = 2 * len_in_bytes hash
+-- the kind of the ids that the prefix is one of
+abbrev pub prefix_kind : Prefix → HashKind
+prefix_kind prefix = kind_of prefix.id
 
--- the first digits of the id that the prefix keeps
+-- the digits of the prefix
 abbrev pub prefix_digits : Prefix → List ℕ
 prefix_digits prefix = take prefix.hex_len (hex_of prefix.id)
 
--- Some digits, with zeros behind them up to the digits of a whole id.
-abbrev pub padded : ℕ → List ℕ → List ℕ
-padded len digits = digits ++ replicate (len - length digits) 48
-
--- A prefix has at most as many digits as an id, and at least four. (Git, git-rev-parse(1), "--short")
-abbrev pub length_error : ℕ → ℕ → Option PrefixError
-length_error most found =
-    if nat_lt most found then Some (TooLong found)
-    else if nat_lt found 4 then Some (TooShort found)
-    else None
-
--- the prefix keeps the first digits of the id, with zeros behind them
+-- the prefix has the first digits of the id
 pub record IsPrefixOf (id : ObjectId) (hex_len : ℕ) (prefix : Prefix) : Type 0 where
-  pub len : prefix.hex_len ≡ hex_len
-  pub id_digits : hex_of prefix.id ≡ padded (length (hex_of id)) (take hex_len (hex_of id))
+  pub kind : prefix_kind prefix ≡ kind_of id
+  pub digits : prefix_digits prefix ≡ take hex_len (hex_of id)
 
--- how many digits the shortest kind of id has that has room for so many
-abbrev pub room_for : ℕ → ℕ
-room_for found = if nat_le found 40 then 40 else 64
+-- The id is the least one that begins with the prefix: its other digits are zeros.
+pub record IsLeast (prefix : Prefix) (id : ObjectId) : Type 0 where
+  pub kind : kind_of id ≡ prefix_kind prefix
+  pub digits : hex_of id ≡ padded (length (hex_of id)) (prefix_digits prefix)
 
+-- the id that the digits spell, with zeros after them. A prefix of up to 40 digits is one of SHA-1 ids, and a longer
+-- one of SHA-256 ids. (gix_hash::Prefix::from_hex; Git, git-rev-parse(1), "<sha1>")
+abbrev pub padded_id : List ℕ → Result ObjectId HexError
+padded_id digits = id_from_hex (padded (room_for (length digits)) digits)
+
+-- why digits that are neither too few nor too many are refused
 abbrev pub digit_error : HexError → PrefixError
 digit_error (hex_error.BadDigit at) = BadDigit at
 digit_error (hex_error.BadLength found) = TooLong found
 
-abbrev pub prefix_with : ℕ → ObjectId → Prefix
-prefix_with hex_len id = record { id = id; hex_len = hex_len }
+-- the length's error, and else that of the digits
+abbrev pub error_unless : Option PrefixError → List ℕ → Option PrefixError
+error_unless (Some error) digits = Some error
+error_unless None digits = option_map digit_error (result_err (padded_id digits))
 
-abbrev pub read_unless : Option PrefixError → List ℕ → Result Prefix PrefixError
-read_unless (Some error) digits = Err error
-read_unless None digits = result_map_both (prefix_with (length digits)) digit_error (id_from_hex (padded (room_for (length digits)) digits))
+-- Why digits spell no prefix: the number of digits is tested before them.
+abbrev pub prefix_error : List ℕ → Option PrefixError
+prefix_error digits = error_unless (length_error 64 (length digits)) digits
 
--- A prefix of up to 40 digits is one of SHA-1 ids, and a longer one of SHA-256 ids. It is read as the id that its digits spell, with zeros behind them. (gix_hash::Prefix::from_hex; Git, git-rev-parse(1), "<sha1>")
-abbrev pub prefix_from_hex : List ℕ → Result Prefix PrefixError
-prefix_from_hex digits = read_unless (length_error 64 (length digits)) digits
+-- the prefix has the digits of the id that the text spells
+abbrev pub IsSpelledBy : List ℕ → Prefix → Type 0
+IsSpelledBy digits prefix = (id : ObjectId) × (padded_id digits ≡ Ok id) × IsPrefixOf id (length digits) prefix

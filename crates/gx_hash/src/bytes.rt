@@ -1,3 +1,4 @@
+//! Owned bytes, as values have them.
 ghost use Rattle.std.specs.Prelude.{◌≡◌, ◌↔◌, [], length, IsTrue, IfOk};
 
 use crate::NoMemory;
@@ -163,22 +164,5 @@ impl Hash for Bytes {
 
     fn hash<H: Hasher>(&self, state: &mut H) {
         self.as_slice().hash(state);
-    }
-}
-
-#[cfg(test)]
-mod tests {
-    use super::*;
-    use std::test::Fail;
-
-    #[test]
-    fn keeps_and_copies_its_bytes(rt: HostRuntime) -> Result<(), Fail> {
-        let bytes = Bytes::from_slice(rt.alloc(), b"main")?;
-        let copy = bytes.try_clone()?;
-        assert_eq!(rt; copy, bytes);
-        assert_eq!(rt; bytes.clone()?.as_slice(), b"main".as_slice());
-        assert!(rt; Bytes::new(rt.alloc()) < copy);
-        assert_eq!(rt; Bytes::from_vec(copy.into_vec()), bytes);
-        Ok(())
     }
 }

@@ -1,3 +1,4 @@
+//! The kinds of digest.
 ghost use Rattle.std.specs.Prelude.{◌≡◌, ◌*◌};
 ghost use Rattle.gx_hash.specs.HashKind.{len_in_bytes, IsOfKind};
 ghost use Rattle.gx_hash.specs.ObjectId.{null_id, empty_tree_id, empty_blob_id};

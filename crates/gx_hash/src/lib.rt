@@ -10,6 +10,7 @@ mod hasher;
 mod kind;
 pub mod laws;
 mod no_memory;
+mod object_ids;
 mod oid;
 mod prefix;
 
@@ -17,5 +18,6 @@ pub use bytes::Bytes;
 pub use hasher::object_id;
 pub use kind::HashKind;
 pub use no_memory::NoMemory;
+pub use object_ids::ObjectIds;
 pub use oid::{HexError, ObjectId};
 pub use prefix::{Prefix, PrefixError};

@@ -1,3 +1,4 @@
+//! The one error that has no cause.
 use std::alloc::{AllocError, AllocFailed};
 use thiserror::Error;
 

@@ -1,14 +1,38 @@
+//! Ids of objects: their bytes and their digits.
+
 ghost use Rattle.std.specs.Prelude.{◌≡◌, ◌≤◌, Some, ◌++◌, ◌↔◌, ◌*◌, length, take, IfOk, OnOk, OnErr, IsTrue};
 ghost use Rattle.gx_hash.specs.HashKind.{len_in_bytes, kind_of, IsOfKind};
 ghost use Rattle.gx_hash.specs.ObjectId.{bytes_of, hex_of, null_id, empty_tree_id, empty_blob_id, id_from_bytes, bytes_from_hex, id_from_hex};
-ghost use Rattle.gx_hash.specs.Prefix.{len_in_hex, padded};
+ghost use Rattle.gx_hash.specs.IdDigits.{IsHexId};
+ghost use Rattle.gx_hash.specs.PrefixDigits.{len_in_hex, padded};
+ghost use Rattle.gx_hash.specs.declared.kind.HashKind.{HashKind};
 ghost use Rattle.hex.specs.Hex.{encode_lower};
 
-use crate::{Bytes, HashKind, NoMemory, object_id};
+use crate::{Bytes, HashKind, NoMemory};
 use hex::{FromHex, FromHexError};
 use std::alloc::Global;
 use std::fmt;
 use thiserror::Error;
+
+const EMPTY_TREE_SHA1: [u8; 20] = [
+    0x4b, 0x82, 0x5d, 0xc6, 0x42, 0xcb, 0x6e, 0xb9, 0xa0, 0x60, 0xe5, 0x4b, 0xf8, 0xd6, 0x92, 0x88,
+    0xfb, 0xee, 0x49, 0x04,
+];
+
+const EMPTY_TREE_SHA256: [u8; 32] = [
+    0x6e, 0xf1, 0x9b, 0x41, 0x22, 0x5c, 0x53, 0x69, 0xf1, 0xc1, 0x04, 0xd4, 0x5d, 0x8d, 0x85, 0xef,
+    0xa9, 0xb0, 0x57, 0xb5, 0x3b, 0x14, 0xb4, 0xb9, 0xb9, 0x39, 0xdd, 0x74, 0xde, 0xcc, 0x53, 0x21,
+];
+
+const EMPTY_BLOB_SHA1: [u8; 20] = [
+    0xe6, 0x9d, 0xe2, 0x9b, 0xb2, 0xd1, 0xd6, 0x43, 0x4b, 0x8b, 0x29, 0xae, 0x77, 0x5a, 0xd8, 0xc2,
+    0xe4, 0x8c, 0x53, 0x91,
+];
+
+const EMPTY_BLOB_SHA256: [u8; 32] = [
+    0x47, 0x3a, 0x0f, 0x4c, 0x3b, 0xe8, 0xa9, 0x36, 0x81, 0xa2, 0x67, 0xe3, 0xb1, 0xe9, 0xa7, 0xdc,
+    0xda, 0x11, 0x85, 0x43, 0x6f, 0xe1, 0x41, 0xf7, 0x74, 0x91, 0x20, 0xa3, 0x03, 0x72, 0x18, 0x13,
+];
 
 /// The id of an object. Ids are ordered by kind, then by bytes.
 #[derive(Clone, Copy, PartialEq, Eq, PartialOrd, Ord, Hash)]
@@ -40,20 +64,26 @@ impl ObjectId {
         }
     }
 
-    /// The id of the tree without entries.
+    /// The id of the tree without entries. Nothing is hashed.
     pub fn empty_tree(kind: HashKind) -> ObjectId
         ensures id { result ≡ empty_tree_id kind }
         ensures kind { IsOfKind kind result }
     {
-        object_id(kind, b"tree", &[])
+        match kind {
+            HashKind::Sha1 => ObjectId::Sha1(EMPTY_TREE_SHA1),
+            HashKind::Sha256 => ObjectId::Sha256(EMPTY_TREE_SHA256),
+        }
     }
 
-    /// The id of the blob without bytes.
+    /// The id of the blob without bytes. Nothing is hashed.
     pub fn empty_blob(kind: HashKind) -> ObjectId
         ensures id { result ≡ empty_blob_id kind }
         ensures kind { IsOfKind kind result }
     {
-        object_id(kind, b"blob", &[])
+        match kind {
+            HashKind::Sha1 => ObjectId::Sha1(EMPTY_BLOB_SHA1),
+            HashKind::Sha256 => ObjectId::Sha256(EMPTY_BLOB_SHA256),
+        }
     }
 
     pub fn kind(&self) -> HashKind
@@ -115,10 +145,20 @@ impl ObjectId {
         }
     }
 
-    /// The id with these first hex digits of this one, and zeros behind them.
+    /// The id that these are the digits of, in lower case and as many as an id of some kind has.
+    pub fn from_digits(digits: &[u8]) -> ObjectId
+        requires { (hash : HashKind) × IsHexId hash digits.now }
+        ensures digits { hex_of result ≡ digits.now }
+        ensures kind { (hash : HashKind) → IsHexId hash digits.now → IsOfKind hash result }
+    {
+        ObjectId::from_hex(digits).unwrap()
+    }
+
+    /// The id with these first hex digits of this one, and zeros after them.
     pub(crate) fn keeping_digits(&self, hex_len: usize) -> ObjectId
         requires { hex_len ≤ len_in_hex (kind_of self.now) }
         ensures digits { hex_of result ≡ padded (length (hex_of self.now)) (take hex_len (hex_of self.now)) }
+        ensures size { length (hex_of self.now) ≡ len_in_hex (kind_of self.now) }
         ensures kind { kind_of result ≡ kind_of self.now }
     {
         match self {
@@ -127,7 +167,7 @@ impl ObjectId {
         }
     }
 
-    /// The id's digits, in lower case, as they stand in the buffer.
+    /// Writes the id's digits, in lower case, into the buffer, and gives that part of it.
     pub(crate) fn write_hex<'a>(&self, buffer: &'a mut [u8; 64]) -> &'a [u8]
         ensures { result.now ≡ hex_of self.now }
     {
@@ -139,7 +179,7 @@ impl ObjectId {
     /// Appends the id's digits, in lower case.
     pub fn push_hex(&self, out: &mut Vec<u8>) -> Result<(), NoMemory>
         ensures ok { OnOk result (out.new.items ≡ out.old.items ++ hex_of self.now) }
-        ensures err { OnErr result (out.new.items ≡ out.old.items) }
+        ensures leaves { OnErr result (out.new.items ≡ out.old.items) }
     {
         let mut buffer = [0; 64];
         out.extend_from_slice(self.write_hex(&mut buffer))?;
@@ -172,10 +212,12 @@ fn bytes_from_hex<const N: usize>(digits: &[u8]) -> Result<[u8; N], HexError>
     }
 }
 
-/// The bytes whose first hex digits are as these have them, and zeros behind them.
+/// The bytes with these first hex digits of the given ones, and zeros after them.
 fn keep_digits<const N: usize>(bytes: &[u8; N], hex_len: usize) -> [u8; N]
     requires { hex_len ≤ 2 * N }
-    ensures { encode_lower result ≡ padded (length (encode_lower bytes.now)) (take hex_len (encode_lower bytes.now)) }
+    ensures kept { encode_lower result
+        ≡ padded (length (encode_lower bytes.now)) (take hex_len (encode_lower bytes.now)) }
+    ensures size { length (encode_lower bytes.now) ≡ 2 * N }
 {
     let whole = hex_len / 2;
     let mut kept = [0; N];
@@ -210,6 +252,3 @@ impl fmt::Debug for ObjectId {
         }
     }
 }
-
-#[cfg(test)]
-mod tests;

@@ -8,7 +8,8 @@ use Rattle.bstr.specs.declared.bstr.BStr.{BStr}
 use Rattle.gx_hash.specs.declared.kind.HashKind.{HashKind}
 use Rattle.gx_object.specs.declared.commit.decode.ExtraHeader.{ExtraHeader}
 use Rattle.gx_object.specs.Commit.{encoding_line}
-use Rattle.gx_object.specs.CommitSpelling.{IsHexId, HeaderText, IsHeader, IsEncodingHeader, header_text, raw_line, text_line}
+use Rattle.gx_hash.specs.IdDigits.{IsHexId}
+use Rattle.gx_object.specs.CommitSpelling.{HeaderText, IsHeader, IsEncodingHeader, header_text, raw_line, text_line}
 use Rattle.gx_object.specs.CommitLines.{HasHeader, IsNoHeader, AddsHeaders, PushesHeaders, AddsParents, HasHeaders}
 
 pub all_push : {A : Type 0} (P : A → Type 0) (xs : List A) (x : A) → AllByRecursion P xs → P x → AllByRecursion P (xs ++ x ∷ [])

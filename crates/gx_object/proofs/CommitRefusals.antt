@@ -9,11 +9,12 @@ use Rattle.gx_object.specs.declared.decode.DecodeError.{DecodeError}
 use Rattle.gx_object.specs.declared.decode.DecodeError.TheVariants.{Decode}
 use Rattle.gx_object.specs.Commit.{encoding_line}
 use Rattle.gx_object.specs.IdentitySpelling.{IdentityText}
-use Rattle.gx_object.specs.CommitSpelling.{IsHexId, HeaderText, raw_line, text_line, IsNoCommit}
+use Rattle.gx_hash.specs.IdDigits.{IsHexId}
+use Rattle.gx_object.specs.CommitSpelling.{HeaderText, raw_line, text_line, IsNoCommit}
 use Rattle.gx_object.specs.CommitLines.{IsNotBehind, IsNoIdLine, IsNoIdentityLine, HasIdentityLine, HasParents, HasHeaders}
-use Rattle.gx_object.proofs.CommitPlace.{refused_at, leads_none, leads_to_author, leads_to_committer, leads_to_message, stuck_tree, stuck_parents, stuck_committer, stuck_late, stage_is_late, begins_tree, begins_parents, begins_committer, begins_late, tree_text, author_text, committer_text, late_text, late_stage, late_is_not_end}
+use Rattle.gx_object.specs.Laws.CommitPlace.{refused_at, leads_none, leads_to_author, leads_to_committer, leads_to_message, stuck_tree, stuck_parents, stuck_committer, stuck_late, stage_is_late, begins_tree, begins_parents, begins_committer, begins_late, tree_text, author_text, committer_text, late_text, late_stage, late_is_not_end}
 
--- a front grows by what stands behind it
+-- a front grows by what follows it
 pub further : (bytes front part rest more : List ℕ) → bytes ≡ front ++ rest → rest ≡ part ++ more → bytes ≡ (front ++ part) ++ more
 further bytes front part rest more p q = p ∙ ap (λ l. front ++ l) q ∙ sym (append_assoc front part more)
 

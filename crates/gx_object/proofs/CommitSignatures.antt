@@ -5,7 +5,7 @@ use Rattle.std.proofs.lemmas.List.{take_at}
 use Rattle.std.proofs.lemmas.List.Concat.{flat_map-append}
 use Rattle.gx_hash.specs.declared.kind.HashKind.{HashKind}
 use Rattle.gx_hash.specs.declared.kind.HashKind.TheVariants as hash_kind
-use Rattle.gx_object.specs.CommitNext.{CommitPlace}
+use Rattle.gx_object.specs.PartsRead.{ObjectText}
 use Rattle.gx_object.specs.declared.decode.DecodeError.{DecodeError}
 use Rattle.gx_object.specs.declared.decode.DecodeError.TheVariants.{Decode, NoMemory}
 use Rattle.gx_object.specs.Commit.{encoding_line}
@@ -15,11 +15,11 @@ use Rattle.gx_object.specs.CommitLines.{HasHeader, IsNoHeader}
 use Rattle.gx_object.specs.CommitItems.{HasCommitter, SpellsMessage, SpellsNone, author_front, committer_front}
 use Rattle.gx_object.specs.CommitSignature.{signature_name, IsOther, lines_to_end, HasSignature, HasNoSignature, IsSignature, IsUnsigned, IsSignedBy, TellsSignature, SpellsSome, RefusesCommit, MissesSignature, FirstNamed, PassesOthers}
 use Rattle.gx_object.proofs.CommitParts.{all_push}
-use Rattle.gx_object.proofs.CommitPlace.{encoding_name}
+use Rattle.gx_object.specs.Laws.CommitPlace.{encoding_name}
 use Rattle.gx_object.proofs.CommitRefusals.{further}
 use Rattle.gx_object.proofs.FieldLemmas.{author_and_rest}
-use Rattle.gx_object.proofs.LineLemmas.{raw_line_open, without_append, name_without_newline}
-use Rattle.gx_object.proofs.OneCommit.{first_line, header_in_front, no_header_here, open_folds, one_commit, one_header, one_who}
+use Rattle.gx_object.specs.Laws.LineLemmas.{raw_line_open, without_append, name_without_newline}
+use Rattle.gx_object.specs.Laws.OneCommit.{first_line, header_in_front, no_header_here, open_folds, one_commit, one_header, one_who}
 
 -- Headers, one after another.
 pub passes_none : (name : List ℕ) (headers : List HeaderText) (message bytes : List ℕ) → bytes ≡ lines_to_end headers message → PassesOthers name headers message bytes
@@ -133,7 +133,7 @@ lines_behind name headers message h lines rest p =
     ∙ ap (λ l. flat_map raw_line p.before ++ l) (sym p.lines_are)
 
 -- The commit.
-late_is : (it : CommitPlace) (who : IdentityText) (rest : List ℕ) → HasCommitter it who rest → (c : CommitText) → SpellsCommit it.hash it.bytes c → rest ≡ lines_to_end (late_headers c.encoding c.extra_headers) c.message
+late_is : (it : ObjectText) (who : IdentityText) (rest : List ℕ) → HasCommitter it who rest → (c : CommitText) → SpellsCommit it.hash it.bytes c → rest ≡ lines_to_end (late_headers c.encoding c.extra_headers) c.message
 late_is it who rest k c s =
     let f = k.lines in
     let late = text_line (codes "committer ") f.line ++ rest in
@@ -146,20 +146,20 @@ front_is : (bytes front lines : List ℕ) → bytes ≡ front ++ lines → take 
 front_is bytes front lines e = ap (take (length bytes - length lines)) e ∙ take_at front lines (length bytes - length lines) (omega (arith, ap length e, length-append front lines))
 
 -- an iterator over these bytes
-abbrev pub Over : CommitPlace → HashKind → List ℕ → Type 0
+abbrev pub Over : ObjectText → HashKind → List ℕ → Type 0
 Over it hash bytes = (it.bytes ≡ bytes) × (it.hash ≡ hash)
 
 -- from the place where an iterator begins
-pub over : {it begun : CommitPlace} → it ≡ begun → Over it begun.hash begun.bytes
-over e = (ap (λ (p : CommitPlace). p.bytes) e, ap (λ (p : CommitPlace). p.hash) e)
+pub over : {it begun : ObjectText} → it ≡ begun → Over it begun.hash begun.bytes
+over e = (ap (λ (p : ObjectText). p.bytes) e, ap (λ (p : ObjectText). p.hash) e)
 
-said_of : (P : HashKind → List ℕ → Type 0) (it : CommitPlace) (hash : HashKind) (bytes : List ℕ) → Over it hash bytes → P it.hash it.bytes → P hash bytes
+said_of : (P : HashKind → List ℕ → Type 0) (it : ObjectText) (hash : HashKind) (bytes : List ℕ) → Over it hash bytes → P it.hash it.bytes → P hash bytes
 said_of P it hash bytes same p = subst (λ h. P h bytes) same.1 (subst (P it.hash) same.0 p)
 
 abbrev OthersIn : List ℕ → HashKind → Type 0
 OthersIn rest hash = (headers : List HeaderText) (message : List ℕ) → AllByRecursion IsHeader headers → rest ≡ lines_to_end headers message → AllByRecursion (IsOther (signature_name hash)) headers
 
-pub no_signature : (it : CommitPlace) (hash : HashKind) (bytes : List ℕ) (who : IdentityText) (rest text : List ℕ) → Over it hash bytes → SpellsMessage it text → HasCommitter it who rest
+pub no_signature : (it : ObjectText) (hash : HashKind) (bytes : List ℕ) (who : IdentityText) (rest text : List ℕ) → Over it hash bytes → SpellsMessage it text → HasCommitter it who rest
     → ((headers : List HeaderText) (message : List ℕ) → AllByRecursion IsHeader headers → rest ≡ lines_to_end headers message → AllByRecursion (IsOther (signature_name hash)) headers)
     → IsUnsigned hash bytes
 no_signature it hash bytes who rest text same m k none =
@@ -174,7 +174,7 @@ FirstIn rest h lines more hash = (headers : List HeaderText) (message : List ℕ
 abbrev pub IsFound : HeaderText → List ℕ → HashKind → List ℕ → Type 0
 IsFound h signed hash bytes = SpellsSome hash bytes (λ c. HasSignature hash bytes c h signed)
 
-pub a_signature : (it : CommitPlace) (hash : HashKind) (bytes : List ℕ) (who : IdentityText) (rest text : List ℕ) (h : HeaderText) (lines more signed : List ℕ) → Over it hash bytes → SpellsMessage it text → HasCommitter it who rest
+pub a_signature : (it : ObjectText) (hash : HashKind) (bytes : List ℕ) (who : IdentityText) (rest text : List ℕ) (h : HeaderText) (lines more signed : List ℕ) → Over it hash bytes → SpellsMessage it text → HasCommitter it who rest
     → ((headers : List HeaderText) (message : List ℕ) → AllByRecursion IsHeader headers → rest ≡ lines_to_end headers message → FirstNamed (signature_name hash) headers message h lines more)
     → signed ≡ take (length bytes - length lines) bytes ++ more → IsFound h signed hash bytes
 a_signature it hash bytes who rest text h lines more signed same m k found e =
@@ -200,7 +200,7 @@ a_signature it hash bytes who rest text h lines more signed same m k found e =
       };
     })
 
-pub none_refused : (it : CommitPlace) (hash : HashKind) (bytes : List ℕ) (e : DecodeError) → Over it hash bytes → SpellsNone it e → RefusesCommit hash bytes e
+pub none_refused : (it : ObjectText) (hash : HashKind) (bytes : List ℕ) (e : DecodeError) → Over it hash bytes → SpellsNone it e → RefusesCommit hash bytes e
 none_refused it hash bytes e same p = said_of (λ h b. RefusesCommit h b e) it hash bytes same (p.at, p.error, p.none)
 
 pub refused_missed : (hash : HashKind) (bytes : List ℕ) (e : DecodeError) → RefusesCommit hash bytes e → MissesSignature hash bytes e

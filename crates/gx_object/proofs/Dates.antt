@@ -11,7 +11,7 @@ use Rattle.std.proofs.lemmas.List.{take_at, drop_at, take-append-drop}
 use Rattle.gx_object.specs.TimeSpelling.{SpellsTwoDigits, SpellsSeconds, IsSignedBy, SpellsOffset, SpellsTime, seconds_text}
 use Rattle.gx_object.specs.declared.signature.Time.{Time}
 use Rattle.gx_object.specs.Split.{Lacks}
-use Rattle.gx_object.proofs.Splits.{cut_once, digits_lack, lacks_more}
+use Rattle.gx_object.specs.Laws.Splits.{cut_once, digits_lack, lacks_more}
 
 -- the sign, the hours and the minutes of an offset's text
 pub offset_text : (text : List ℕ) (sign : ℕ) (digits hours minutes : List ℕ) → text ≡ sign ∷ digits → IsSplitAt digits 2 hours minutes → text ≡ sign ∷ hours ++ minutes

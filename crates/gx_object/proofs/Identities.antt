@@ -20,7 +20,7 @@ none_in_front b text at first (k, within, is) =
     let read : get_or text k 0 ≡ b = sym (get_or-take at text k 0 below) ∙ get_or_default (take at text) k 0 b within ∙ is in
     first.before k (omega arith) below (passes b text k read)
 
--- behind the last place of a byte there is none
+-- after the last place of a byte there is none
 pub none_behind : (b : ℕ) (text : List ℕ) (at : ℕ) → NoneAfter (Passes (is_byte b) text) 0 (length text) at → Contains (drop (at + 1) text) b → ⊥
 none_behind b text at last (k, within, is) =
     let room = length-drop (at + 1) text in

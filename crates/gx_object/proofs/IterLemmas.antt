@@ -11,19 +11,20 @@ use Rattle.gx_object.specs.declared.decode.DecodeError.{DecodeError}
 use Rattle.gx_object.specs.declared.decode.DecodeError.TheVariants.{Decode}
 use Rattle.gx_object.specs.Commit.{encoding_line}
 use Rattle.gx_object.specs.IdentitySpelling.{IdentityText}
-use Rattle.gx_object.specs.CommitSpelling.{IsHexId, HeaderText, IsHeader, HasEncoding, raw_line, text_line, BeginsCommit}
+use Rattle.gx_hash.specs.IdDigits.{IsHexId}
+use Rattle.gx_object.specs.CommitSpelling.{HeaderText, IsHeader, HasEncoding, raw_line, text_line, BeginsCommit}
 use Rattle.gx_object.specs.CommitLines.{HasLine, IsHeaderLine, HasIdentityLine, HasHeader, IsNoFold}
 use Rattle.gx_object.specs.CommitItems.{Item, TreeId, ParentId, AuthorIs, CommitterIs, HeaderIs, MessageIs, encoding_items, HasIdLine, IsFirstItem, IsMessage, ItemAt, ReadsAll, Stuck, item_of, TreeFront, AuthorFront, CommitterFront, HeadersFront, tree_front, author_front, committer_front, headers_front, committer_items, FrontIs, EndsHeader, Given, Left, LeftBehind, IsRefusal, GivenBehind, HasKind, NextItem, items_left_at}
-use Rattle.gx_object.proofs.LineLemmas.{Without, without_append, raw_line_open, name_without_newline, name_without_space}
+use Rattle.gx_object.specs.Laws.LineLemmas.{Without, without_append, raw_line_open, name_without_newline, name_without_space}
 use Rattle.gx_object.proofs.CommitParts.{all_push, flat_map_push}
-use Rattle.gx_object.proofs.CommitPlace.{Leads, leads_none, leads_to_author, leads_to_committer, leads_to_encoding, leads_to_message, begins_tree, begins_parents, begins_committer, begins_late, late_stage, late_text_is, late_text, refused_at, hex_open, tree_word, parent_word, author_word, committer_word}
-use Rattle.gx_object.proofs.OneCommit.{one_item, first_line}
+use Rattle.gx_object.specs.Laws.CommitPlace.{Leads, leads_none, leads_to_author, leads_to_committer, leads_to_encoding, leads_to_message, begins_tree, begins_parents, begins_committer, begins_late, late_stage, late_text_is, late_text, refused_at, hex_open, tree_word, parent_word, author_word, committer_word}
+use Rattle.gx_object.specs.Laws.OneCommit.{one_item, first_line}
 
 -- Items shorten what is left.
-header_length : (bytes : List ℕ) (h : HeaderText) (more : List ℕ) → HasHeader bytes h more → length more < length bytes
+pub header_length : (bytes : List ℕ) (h : HeaderText) (more : List ℕ) → HasHeader bytes h more → length more < length bytes
 header_length bytes h more p = omega (arith, ap length p.is, length-append (raw_line h) more, length-append h.name (32 ∷ h.raw ++ 10 ∷ []), length-append h.raw (10 ∷ []))
 
-line_length : (bytes word text more : List ℕ) → bytes ≡ text_line word text ++ more → length more < length bytes
+pub line_length : (bytes word text more : List ℕ) → bytes ≡ text_line word text ++ more → length more < length bytes
 line_length bytes word text more e = omega (arith, ap length e, length-append (text_line word text) more, length-append word (text ++ 10 ∷ []), length-append text (10 ∷ []))
 
 most : (t : Next) (n : ℕ) → items_left_at t n < n + 2

@@ -4,7 +4,7 @@ use Rattle.std.specs.List.{flat_map}
 use Rattle.std.proofs.lemmas.Bool.Decides.{eqb_tells}
 use Rattle.bstr.specs.BStr.{bstr_bytes}
 use Rattle.bstr.specs.declared.bstr.BStr.{BStr}
-use Rattle.gx_object.specs.CommitNext.{CommitPlace}
+use Rattle.gx_object.specs.PartsRead.{ObjectText}
 use Rattle.gx_object.specs.declared.decode.DecodeError.{DecodeError}
 use Rattle.gx_object.specs.declared.decode.DecodeError.TheVariants.{Decode}
 use Rattle.gx_object.specs.Commit.{encoding_line}
@@ -13,9 +13,9 @@ use Rattle.gx_object.specs.CommitSpelling.{HeaderText, CommitText, IsHeader, IsE
 use Rattle.gx_object.specs.CommitLines.{HasHeader, HasHeaders, IsNoHeader, IsNotBehind}
 use Rattle.gx_object.specs.CommitItems.{committer_front, HasCommitter, SkipsHeaders, SkipsFurther, SpellsMessage, SpellsNone, GoesWrongByCommitter}
 use Rattle.gx_object.proofs.CommitParts.{encoded, not_encoded, all_push, flat_map_push}
-use Rattle.gx_object.proofs.CommitPlace.{late_text, late_text_is, late_stage, leads_to_message, stuck_late, stage_is_late, late_is_not_end, begins_late, refused_at}
+use Rattle.gx_object.specs.Laws.CommitPlace.{late_text, late_text_is, late_stage, leads_to_message, stuck_late, stage_is_late, late_is_not_end, begins_late, refused_at}
 use Rattle.gx_object.proofs.CommitRefusals.{further}
-use Rattle.gx_object.proofs.OneCommit.{one_commit}
+use Rattle.gx_object.specs.Laws.OneCommit.{one_commit}
 
 pub further_none : (bytes : List ℕ) → SkipsFurther bytes bytes
 further_none bytes = ([], record { added = []; new_is = refl; is = refl; each = tt; no_fold = λ p. p })
@@ -70,12 +70,12 @@ skips_some bytes h rest more has (skipped, ends) =
       | inr none ↦ (None, h ∷ p.added, not_encoded bytes h rest (h ∷ p.added) more has none (record { added = p.added; new_is = refl; is = p.is; each = p.each; no_fold = p.no_fold }, ends))
     ]
 
-message_front : (it : CommitPlace) (whom : IdentityText) (r rest : List ℕ) (k : HasCommitter it whom r) (encoding : Option (List ℕ)) (hs : List HeaderText) → HasHeaders r encoding hs rest
+message_front : (it : ObjectText) (whom : IdentityText) (r rest : List ℕ) (k : HasCommitter it whom r) (encoding : Option (List ℕ)) (hs : List HeaderText) → HasHeaders r encoding hs rest
     → it.bytes ≡ late_text k.lines.before.before.tree k.lines.before.before.parents k.lines.before.line k.lines.line encoding hs ++ rest
 message_front it whom r rest k encoding hs l =
     further it.bytes (committer_front k.lines) (encoding_line encoding ++ flat_map raw_line hs) r rest k.whole (l.is ∙ sym (append_assoc (encoding_line encoding) (flat_map raw_line hs) rest))
 
-pub message_found : (it : CommitPlace) (whom : IdentityText) (r rest text : List ℕ) → HasCommitter it whom r → SkipsHeaders r rest → rest ≡ 10 ∷ text → SpellsMessage it text
+pub message_found : (it : ObjectText) (whom : IdentityText) (r rest text : List ℕ) → HasCommitter it whom r → SkipsHeaders r rest → rest ≡ 10 ∷ text → SpellsMessage it text
 message_found it whom r rest text k (encoding, hs, l) e =
     let f = k.lines in
     let b = f.before in
@@ -97,7 +97,7 @@ message_found it whom r rest text k (encoding, hs, l) e =
       message = refl;
     }
 
-pub message_wrong : (it : CommitPlace) (whom : IdentityText) (r rest : List ℕ) (e : DecodeError) → HasCommitter it whom r → SkipsHeaders r rest → IsNotBehind (10 ∷ []) rest → e ≡ Decode (length it.bytes - length rest) → SpellsNone it e
+pub message_wrong : (it : ObjectText) (whom : IdentityText) (r rest : List ℕ) (e : DecodeError) → HasCommitter it whom r → SkipsHeaders r rest → IsNotBehind (10 ∷ []) rest → e ≡ Decode (length it.bytes - length rest) → SpellsNone it e
 message_wrong it whom r rest e k (encoding, hs, l) none place =
     let f = k.lines in
     let b = f.before in
@@ -111,11 +111,11 @@ message_wrong it whom r rest e k (encoding, hs, l) none place =
           (begins_late it.hash b.before.tree b.before.parents b.line f.line b.who f.who encoding hs b.before.tree_id b.before.parent_ids b.one b.spells f.one f.spells l.encoding_is l.each) place place;
     }
 
-pub wrong_none : (it : CommitPlace) (e : DecodeError) → GoesWrongByCommitter it e → SpellsNone it e
+pub wrong_none : (it : ObjectText) (e : DecodeError) → GoesWrongByCommitter it e → SpellsNone it e
 wrong_none it e (inl (inl w)) = record { at = w.at; error = w.error; none = w.none }
 wrong_none it e (inl (inr w)) = record { at = w.at; error = w.error; none = w.none }
 wrong_none it e (inr w) = record { at = w.at; error = w.error; none = w.none }
 
-pub message_of : (it : CommitPlace) (r : Result BStr DecodeError) → MatchResult r (λ text. SpellsMessage it (bstr_bytes text)) (SpellsNone it) → (c : CommitText) → SpellsCommit it.hash it.bytes c → MatchResult r (λ text. bstr_bytes text ≡ c.message) (λ _. ⊥)
+pub message_of : (it : ObjectText) (r : Result BStr DecodeError) → MatchResult r (λ text. SpellsMessage it (bstr_bytes text)) (SpellsNone it) → (c : CommitText) → SpellsCommit it.hash it.bytes c → MatchResult r (λ text. bstr_bytes text ≡ c.message) (λ _. ⊥)
 message_of it (Ok text) p c s = sym p.message ∙ ap (λ d. d.message) (one_commit it.hash it.bytes p.commit c p.spells s)
 message_of it (Err e) p c s = p.none.none c s

@@ -5,17 +5,19 @@ use Rattle.gx_hash.specs.HashKind.{IsOfKind}
 use Rattle.gx_hash.specs.ObjectId.{hex_of}
 use Rattle.gx_hash.specs.declared.kind.HashKind.{HashKind}
 use Rattle.gx_hash.specs.declared.oid.ObjectId.{ObjectId}
-use Rattle.gx_object.specs.CommitNext.{Tree, CommitPlace}
+use Rattle.gx_object.specs.PartsRead.{ObjectText}
+use Rattle.gx_object.specs.CommitNext.{Tree}
 use Rattle.gx_object.specs.declared.decode.DecodeError.TheVariants.{Decode}
 use Rattle.gx_object.specs.Commit.{encoding_line}
-use Rattle.gx_object.specs.CommitSpelling.{CommitText, SpellsCommit, IsHexId, IsOneLine, raw_line, text_line}
+use Rattle.gx_hash.specs.IdDigits.{IsHexId}
+use Rattle.gx_object.specs.CommitSpelling.{CommitText, SpellsCommit, IsOneLine, raw_line, text_line}
 use Rattle.gx_object.specs.CommitLines.{HasLine, IsNoIdLine, HasParents}
 use Rattle.gx_object.specs.CommitItems.{HasIdLine}
 use Rattle.gx_object.specs.ParentIds.{HasParentsInFront, HasParentsLeft, GivesParent, ParentsPlace}
-use Rattle.gx_object.proofs.LineLemmas.{without_append}
-use Rattle.gx_object.proofs.CommitPlace.{hex_open, tree_word, parent_word}
+use Rattle.gx_object.specs.Laws.LineLemmas.{without_append}
+use Rattle.gx_object.specs.Laws.CommitPlace.{hex_open, tree_word, parent_word}
 use Rattle.gx_object.proofs.FieldLemmas.{tree_wrong, wrong_is_none}
-use Rattle.gx_object.proofs.OneCommit.{one_id, no_parent_author}
+use Rattle.gx_object.specs.Laws.OneCommit.{one_id, no_parent_author}
 
 -- a line with a word and an id, cut at its newline
 cut_line : (word text rest : List ℕ) → text_line word text ++ rest ≡ (word ++ text) ++ 10 ∷ rest
@@ -28,8 +30,8 @@ line_of_id hash word bytes text rest open_ p = record { is = p.1 ∙ cut_line wo
 no_parent_at_author : (hash : HashKind) (text more : List ℕ) → IsNoIdLine hash (codes "parent ") (text_line (codes "author ") text ++ more)
 no_parent_at_author hash text more id rest is_id has = no_parent_author id text rest more (cut_line (codes "parent ") id rest ∙ sym has.is)
 
--- what stands behind the tree
-pub left_behind_tree : (it : CommitPlace) (new : ParentsPlace) (text : List ℕ) → new.hash ≡ it.hash → HasIdLine it.hash (codes "tree ") it.bytes text new.rest
+-- what follows the tree
+pub left_behind_tree : (it : ObjectText) (new : ParentsPlace) (text : List ℕ) → new.hash ≡ it.hash → HasIdLine it.hash (codes "tree ") it.bytes text new.rest
     → (c : CommitText) → SpellsCommit it.hash it.bytes c → HasParentsLeft it.hash new c.parents
 left_behind_tree it new text kind p c s =
     let late = text_line (codes "committer ") s.committer_line ++ (encoding_line c.encoding ++ (flat_map raw_line c.extra_headers ++ 10 ∷ c.message)) in
@@ -37,7 +39,7 @@ left_behind_tree it new text kind p c s =
     let r = one_id it.hash (codes "tree ") it.bytes text c.tree new.rest (flat_map (text_line (codes "parent ")) c.parents ++ behind) p (s.tree_id, s.whole) in
     record { kind = kind; rest = behind; lines = (record { is = r.1; ids = s.parent_ids }, no_parent_at_author it.hash s.author_line late) }
 
-pub left_in_front : (it : CommitPlace) (new : ParentsPlace) (text : List ℕ) → new.hash ≡ it.hash → HasIdLine it.hash (codes "tree ") it.bytes text new.rest
+pub left_in_front : (it : ObjectText) (new : ParentsPlace) (text : List ℕ) → new.hash ≡ it.hash → HasIdLine it.hash (codes "tree ") it.bytes text new.rest
     → (parents : List (List ℕ)) → HasParentsInFront it.hash it.bytes parents → HasParentsLeft it.hash new parents
 left_in_front it new text kind p parents (inl (tree, more, rest, q, lines)) =
     let r = one_id it.hash (codes "tree ") it.bytes text tree new.rest more p q in
@@ -45,13 +47,13 @@ left_in_front it new text kind p parents (inl (tree, more, rest, q, lines)) =
 left_in_front it new text kind p parents (inr (none, e)) = absurd (none text new.rest p.0 (line_of_id it.hash (codes "tree ") it.bytes text new.rest tree_word p))
 
 -- without a tree nothing is left
-pub no_tree_no_commit : (it : CommitPlace) → IsNoIdLine it.hash (codes "tree ") it.bytes → (c : CommitText) → SpellsCommit it.hash it.bytes c → ⊥
+pub no_tree_no_commit : (it : ObjectText) → IsNoIdLine it.hash (codes "tree ") it.bytes → (c : CommitText) → SpellsCommit it.hash it.bytes c → ⊥
 no_tree_no_commit it none c s = let e = Decode (length it.bytes - length it.bytes) in wrong_is_none it Tree e c (tree_wrong it e none refl) s
 
 none_in_nothing : (hash : HashKind) (bytes : List ℕ) → bytes ≡ [] → IsNoIdLine hash (codes "parent ") bytes
 none_in_nothing hash bytes e text rest is_id has = let h : 112 ∷ (codes "arent " ++ text) ++ 10 ∷ rest ≡ [] = sym has.is ∙ e in absurd (cc)
 
-pub nothing_left : (it : CommitPlace) (new : ParentsPlace) → new.hash ≡ it.hash → new.rest ≡ [] → IsNoIdLine it.hash (codes "tree ") it.bytes
+pub nothing_left : (it : ObjectText) (new : ParentsPlace) → new.hash ≡ it.hash → new.rest ≡ [] → IsNoIdLine it.hash (codes "tree ") it.bytes
     → (parents : List (List ℕ)) → HasParentsInFront it.hash it.bytes parents → HasParentsLeft it.hash new parents
 nothing_left it new kind e none parents (inl (tree, more, rest, q, lines)) = absurd (none tree more q.0 (line_of_id it.hash (codes "tree ") it.bytes tree more tree_word q))
 nothing_left it new kind e none parents (inr (none', is)) =

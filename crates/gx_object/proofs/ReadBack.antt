@@ -18,17 +18,18 @@ use Rattle.gx_object.specs.declared.signature.Signature.{Signature}
 use Rattle.gx_object.specs.declared.signature.Time.{Time}
 use Rattle.gx_object.specs.declared.tag.Tag.{Tag}
 use Rattle.gx_object.specs.Commit.{commit_bytes}
-use Rattle.gx_object.specs.CommitSpelling.{CommitText, IsLowerHexDigit, IsHexId, HasOwnDigits, SpellsCommit}
+use Rattle.gx_hash.specs.IdDigits.{IsHexId, IsLowerHexDigit, HasOwnDigits}
+use Rattle.gx_object.specs.CommitSpelling.{CommitText, SpellsCommit}
 use Rattle.gx_object.specs.IdentitySpelling.{IdentityText}
 use Rattle.gx_object.specs.OwnedCommit.{IsCopyOf, IsOfHash}
 use Rattle.gx_object.specs.OwnedTag.{OwnsIdentity, OwnsTagger, OwnsTag}
 use Rattle.gx_object.specs.Tag.{tag_bytes}
 use Rattle.gx_object.specs.TagSpelling.{TagText, SpellsTag}
 use Rattle.gx_object.specs.WrittenText.{written_commit, written_tag, IsWholeMinutes, CanWriteCommit, TaggerHas, CanWriteTag}
-use Rattle.gx_object.proofs.OneCommit.{one_commit}
+use Rattle.gx_object.specs.Laws.OneCommit.{one_commit}
 use Rattle.gx_object.proofs.TagParts.{one_tag}
 use Rattle.gx_object.proofs.TimesOnce.{one_time}
-use Rattle.gx_object.proofs.WrittenCommits.{commit_spelled, commit_copy}
+use Rattle.gx_object.specs.Laws.WrittenCommits.{commit_spelled, commit_copy}
 use Rattle.gx_object.proofs.WrittenTags.{tag_spelled, tag_copy}
 
 -- Ids: lower-case digits are written of bytes only.

@@ -6,7 +6,7 @@ use Rattle.gx_object.specs.Kind.{kind_name, kind_named}
 use Rattle.gx_object.specs.CommitLines.{IsNotBehind, HasLine, HasNoLine}
 use Rattle.gx_object.specs.TagLines.{IsNoTypeLine, IsNoNameLine}
 use Rattle.gx_object.specs.TagSpelling.{BeginsWithText, OpensSignature}
-use Rattle.gx_object.proofs.LineLemmas.{not_behind, same_behind}
+use Rattle.gx_object.specs.Laws.LineLemmas.{not_behind, same_behind}
 
 -- The line with a kind.
 pub no_type_line : (bytes : List ℕ) → HasNoLine bytes → IsNoTypeLine bytes

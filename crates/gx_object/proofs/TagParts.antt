@@ -7,14 +7,15 @@ use Rattle.gx_object.specs.declared.kind.Kind.{Kind}
 use Rattle.gx_object.specs.declared.kind.Kind.TheVariants.{Blob, Tree, Commit, Tag}
 use Rattle.gx_object.specs.Kind.{kind_name, kind_named}
 use Rattle.gx_object.specs.IdentitySpelling.{IdentityText, SpellsIdentity}
-use Rattle.gx_object.specs.CommitSpelling.{IsOneLine, IsHexId, text_line}
+use Rattle.gx_hash.specs.IdDigits.{IsHexId}
+use Rattle.gx_object.specs.CommitSpelling.{IsOneLine, text_line}
 use Rattle.gx_object.specs.CommitLines.{HasLine}
 use Rattle.gx_object.specs.declared.tag.decode.TagRef.{TagRef}
 use Rattle.gx_object.specs.declared.decode.DecodeError.{DecodeError}
 use Rattle.gx_object.specs.TagSpelling.{TagText, tag_text, IsTagName, SpellsTagger, SpellsBody, SplitsSignature, SpellsTag, RefusesTag}
-use Rattle.gx_object.proofs.LineLemmas.{same_split, without_append}
-use Rattle.gx_object.proofs.CommitPlace.{hex_open}
-use Rattle.gx_object.proofs.OneCommit.{one_identity}
+use Rattle.gx_object.specs.Laws.LineLemmas.{same_split, without_append}
+use Rattle.gx_object.specs.Laws.CommitPlace.{hex_open}
+use Rattle.gx_object.specs.Laws.OneCommit.{one_identity}
 use Rattle.gx_object.proofs.TagLineLemmas.{named_kind}
 
 pub kind_open : (kind : Kind) → IsOneLine (kind_name kind)
@@ -101,7 +102,7 @@ one_body body m n s u (inr p) (inr q) =
     let same : p.0 ≡ q.0 = cc in
     one_split p.0 m n s u p.2 (subst (λ l. SplitsSignature l n u) (sym same) q.2)
 
--- What stands behind the lines of a tag.
+-- What follows the lines of a tag.
 abbrev pub behind_name : (hash : HashKind) (bytes : List ℕ) (t : TagText) → SpellsTag hash bytes t → List ℕ
 behind_name hash bytes t s = s.tagger_text ++ s.body
 

@@ -5,8 +5,8 @@ use Rattle.gx_hash.specs.declared.kind.HashKind.{HashKind}
 use Rattle.gx_object.specs.CommitSpelling.{IsWholeLines}
 use Rattle.gx_object.specs.CommitLines.{HasLine}
 use Rattle.gx_object.specs.TagSpelling.{TagText, SpellsTag, BeginsTag, IsNoTag}
-use Rattle.gx_object.proofs.LineLemmas.{one_line}
-use Rattle.gx_object.proofs.OneCommit.{first_line}
+use Rattle.gx_object.specs.Laws.LineLemmas.{one_line}
+use Rattle.gx_object.specs.Laws.OneCommit.{first_line}
 use Rattle.gx_object.proofs.TagSignatures.{longer, whole_behind}
 
 -- what may follow: nothing, or a whole line

@@ -7,11 +7,12 @@ use Rattle.gx_object.specs.declared.kind.Kind.{Kind}
 use Rattle.gx_object.specs.declared.kind.Kind.TheVariants.{Blob}
 use Rattle.gx_object.specs.Kind.{kind_name}
 use Rattle.gx_object.specs.IdentitySpelling.{IdentityText, SpellsIdentity}
-use Rattle.gx_object.specs.CommitSpelling.{IsOneLine, IsHexId, IsWholeLines, text_line}
+use Rattle.gx_hash.specs.IdDigits.{IsHexId}
+use Rattle.gx_object.specs.CommitSpelling.{IsOneLine, IsWholeLines, text_line}
 use Rattle.gx_object.specs.CommitLines.{HasLine, IsNoIdLine, IsNoIdentityLine}
 use Rattle.gx_object.specs.TagLines.{IsNoTypeLine, IsNoNameLine, HasTypeLine, HasNameLine, TakesTagger, IsNoBody}
 use Rattle.gx_object.specs.TagSpelling.{TagText, IsTagName, SpellsTagger, SpellsBody, SpellsTag, BeginsTag, RefusesTag}
-use Rattle.gx_object.proofs.CommitPlace.{hex_open, zeros, zeros_id}
+use Rattle.gx_object.specs.Laws.CommitPlace.{hex_open, zeros, zeros_id}
 use Rattle.gx_object.proofs.TagParts.{kind_open, object_word, type_word, tag_word, tagger_word, has_text_line, after_object, after_type, after_name, after_tagger, behind_object, behind_type, behind_name}
 use Rattle.gx_object.proofs.TagPlace.{Follows, IsStuck, LeadsTag, refused}
 

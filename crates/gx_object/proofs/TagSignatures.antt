@@ -6,7 +6,7 @@ use Rattle.gx_object.specs.CommitSpelling.{IsOneLine, IsWholeLines}
 use Rattle.gx_object.specs.CommitLines.{HasLine, HasNoLine}
 use Rattle.gx_object.specs.TagLines.{IsLastTo, ReadsSignature, HasLastSignature}
 use Rattle.gx_object.specs.TagSpelling.{OpensSignature, SignedAt, SplitsSignature}
-use Rattle.gx_object.proofs.OneCommit.{first_line}
+use Rattle.gx_object.specs.Laws.OneCommit.{first_line}
 
 -- two fronts of one text
 pub record Longer (a b x y : List ℕ) : Type 0 where
@@ -24,7 +24,7 @@ longer (c ∷ a) (d ∷ b) x y e p =
     let front : b ≡ a ++ r.more = r.front in
     record { more = r.more; front = cc; back = r.back }
 
--- what stands behind in whole lines is whole lines
+-- what follows in whole lines is whole lines
 pub whole_behind : (a o : List ℕ) → IsWholeLines (a ++ o) → IsWholeLines o
 whole_behind [] o w = w
 whole_behind (x ∷ xs) o (inl e) = absurd (cc)
@@ -60,7 +60,7 @@ cases a b = elim (nat_le b a) as (λ v. nat_le b a ≡ v → (a < b) ⊎ (b ≤ 
   | false ↦ λ e. inl (grind (arith, nat_tests, e))
 ] refl
 
--- no signature begins behind what was read, before this
+-- no signature begins after what was read, before this
 abbrev Reaches : List ℕ → List ℕ → (List ℕ → Type 0) → Type 0
 Reaches text read Before = (front r : List ℕ) → SignedAt text front r → Before front → length front ≤ length read
 

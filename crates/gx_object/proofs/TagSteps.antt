@@ -12,13 +12,15 @@ use Rattle.gx_object.specs.declared.tag.items.Stage.TheVariants as stage
 use Rattle.gx_object.specs.declared.tag.items.TagToken.{TagToken}
 use Rattle.gx_object.specs.Kind.{kind_name}
 use Rattle.gx_object.specs.IdentitySpelling.{IdentityText, identity_text, SpellsIdentity}
-use Rattle.gx_object.specs.CommitSpelling.{IsHexId, text_line}
+use Rattle.gx_hash.specs.IdDigits.{IsHexId}
+use Rattle.gx_object.specs.CommitSpelling.{text_line}
 use Rattle.gx_object.specs.CommitLines.{HasIdentityLine, IsNoIdLine, IsNoIdentityLine}
 use Rattle.gx_object.specs.TagSpelling.{TagText, IsTagName, SpellsTagger, SpellsBody, SpellsTag, RefusesTag}
 use Rattle.gx_object.specs.TagFronts.{Next, Target, TargetKind, Name, Tagger, Body, End, next_of, HasTarget, HasName, HasTagger, StandsAt}
 use Rattle.gx_object.specs.TagStages.{ItemAt, NoItemAt, FindsTagger}
-use Rattle.gx_object.specs.TagItems.{Item, TargetIs, TargetKindIs, NameIs, TaggerIs, BodyIs, tagger_items, items_of, item_of, IsLine, AreLines, StandsInFront, EndsTag, GoesWrong, given_at, Tells, items_left, IsNext, GivesItem, most_at, TellsTagger, GoesWrongByTagger}
-use Rattle.gx_object.proofs.OneCommit.{one_identity}
+use Rattle.gx_object.specs.TagItems.{Item, TargetIs, TargetKindIs, NameIs, TaggerIs, BodyIs, tagger_items, items_of, item_of, IsLine, AreLines, StandsInFront, EndsTag, GoesWrong, given_at, Tells, HasKind, IsNext, GivesPart, parts_left, read_before, TellsTagger, GoesWrongByTagger}
+use Rattle.gx_object.specs.PartsRead.{left_of}
+use Rattle.gx_object.specs.Laws.OneCommit.{one_identity}
 use Rattle.gx_object.proofs.TagParts.{cut_line, is_body, no_tagger_body, after_object, after_type, after_name, one_tag}
 use Rattle.gx_object.proofs.TagRefusals.{refuse_object, refuse_type, refuse_name, refuse_body, spelled}
 
@@ -135,13 +137,13 @@ at_end stage.Body e = absurd (cc)
 at_end stage.End e = refl
 
 pub next_none : (hash : HashKind) (s : Next) (bytes rest : List ℕ) (error : DecodeError) → s ≢ End → NoItemAt hash s rest → error ≡ Decode (length bytes - length rest) → StandsAt hash s bytes rest
-    → GivesItem (record { hash = hash; bytes = bytes; rest = rest; next = s }) (Some (Err error)) (record { hash = hash; bytes = bytes; rest = rest; next = End })
+    → GivesPart (read_before hash bytes s) (Some (Err error)) (read_before hash bytes End)
 next_none hash s bytes rest error other none is stands =
     let w = goes_wrong hash s bytes rest error other stands none is in
-    record { reached = tt; tag = λ t p. absurd (w.2.none.none t p); told = (w.0, w.1, w.2, refl) }
+    record { same = refl; kind = tt; tag = λ t p. absurd (w.2.none.none t p); told = (w.0, w.1, w.2, refl) }
 
 -- An item comes next.
-reached : (hash : HashKind) (s : Next) (bytes rest : List ℕ) (i : Item) (more : List ℕ) (t : Next) → StandsAt hash s bytes rest → ItemAt hash s rest i more t → StandsAt hash t bytes more
+pub reached : (hash : HashKind) (s : Next) (bytes rest : List ℕ) (i : Item) (more : List ℕ) (t : Next) → StandsAt hash s bytes rest → ItemAt hash s rest i more t → StandsAt hash t bytes more
 reached hash Target bytes rest i more t e p = subst (λ u. StandsAt hash u bytes more) (sym p.0) (p.1.0, (p.1.2.0, sym e ∙ p.1.2.1))
 reached hash TargetKind bytes rest i more t (target, o) p = subst (λ u. StandsAt hash u bytes more) (sym p.0) (target, p.1.0, (rest, o, p.1.2))
 reached hash Name bytes rest i more t (target, kind, k) p = subst (λ u. StandsAt hash u bytes more) (sym p.0) (target, kind, p.1.0, (rest, k, p.1.2))
@@ -167,32 +169,32 @@ in_front : (hash : HashKind) (t : Next) (bytes rest : List ℕ) (before : List I
 in_front hash t bytes rest before i f e = record { front = f.front; rest = rest; before = before; whole = f.whole; lines = subst (AreLines hash 0 f.front) e f.lines; count = refl }
 
 abbrev Told : HashKind → Next → List ℕ → Item → Next → Type 0
-Told hash s bytes i t = (n : ℕ) × (given_at s ≡ Some n) × Tells hash bytes n i t
+Told hash s bytes i t = (n : ℕ) × (given_at s ≡ Some n) × Tells hash bytes n i (given_at t)
 
 told : (hash : HashKind) (s : Next) (bytes rest : List ℕ) (i : Item) (more : List ℕ) (t : Next) → StandsAt hash s bytes rest → ItemAt hash s rest i more t → Told hash s bytes i t
 unfolding front_of
 told hash Target bytes rest i more t e p =
     let f = front_of hash TargetKind bytes more (λ h. cc) (p.1.0, (p.1.2.0, sym e ∙ p.1.2.1)) in
-    (0, refl, subst (λ j. Tells hash bytes 0 j t) (sym p.1.1) (in_front hash TargetKind bytes more [] (TargetIs p.1.0) f refl, ap given_at p.0))
+    (0, refl, subst (λ j. Tells hash bytes 0 j (given_at t)) (sym p.1.1) (in_front hash TargetKind bytes more [] (TargetIs p.1.0) f refl, ap given_at p.0))
 told hash TargetKind bytes rest i more t (target, o) p =
     let f = front_of hash Name bytes more (λ h. cc) (target, p.1.0, (rest, o, p.1.2)) in
-    (1, refl, subst (λ j. Tells hash bytes 1 j t) (sym p.1.1) (in_front hash Name bytes more (TargetIs target ∷ []) (TargetKindIs p.1.0) f refl, ap given_at p.0))
+    (1, refl, subst (λ j. Tells hash bytes 1 j (given_at t)) (sym p.1.1) (in_front hash Name bytes more (TargetIs target ∷ []) (TargetKindIs p.1.0) f refl, ap given_at p.0))
 told hash Name bytes rest i more t (target, kind, (r, o, k)) p =
     let f = front_of hash Tagger bytes more (λ h. cc) (target, kind, p.1.0, (rest, (r, o, k), p.1.2)) in
-    (2, refl, subst (λ j. Tells hash bytes 2 j t) (sym p.1.1) (in_front hash Tagger bytes more (TargetIs target ∷ TargetKindIs kind ∷ []) (NameIs p.1.0) f refl, ap given_at p.0))
+    (2, refl, subst (λ j. Tells hash bytes 2 j (given_at t)) (sym p.1.1) (in_front hash Tagger bytes more (TargetIs target ∷ TargetKindIs kind ∷ []) (NameIs p.1.0) f refl, ap given_at p.0))
 told hash Tagger bytes rest i more t (target, kind, name, (r', (r, o, k), n)) (inl p) =
     let f = front_of hash Body bytes more (λ h. cc) (target, kind, name, p.1.0, (rest, (r', (r, o, k), n), p.1.2)) in
-    (3, refl, subst (λ j. Tells hash bytes 3 j t) (sym p.1.1) (in_front hash Body bytes more (TargetIs target ∷ TargetKindIs kind ∷ NameIs name ∷ []) (TaggerIs p.1.0) f refl, ap given_at p.0))
+    (3, refl, subst (λ j. Tells hash bytes 3 j (given_at t)) (sym p.1.1) (in_front hash Body bytes more (TargetIs target ∷ TargetKindIs kind ∷ NameIs name ∷ []) (TaggerIs p.1.0) f refl, ap given_at p.0))
 told hash Tagger bytes rest i more t (target, kind, name, n) (inr (none, p)) =
     let message = p.1.0 in
     let signature = p.1.1 in
     let ends : EndsTag hash bytes 3 (BodyIs message signature) = record { tag = tag_of target kind name None message signature; spells = unsigned hash bytes rest target kind name message signature n none p.1.3; last = refl } in
-    (3, refl, subst (λ j. Tells hash bytes 3 j t) (sym p.1.2) (ends, p.0))
+    (3, refl, subst (λ j. Tells hash bytes 3 j (given_at t)) (sym p.1.2) (ends, ap given_at p.0))
 told hash Body bytes rest i more t (target, kind, name, who, g) p =
     let message = p.1.0 in
     let signature = p.1.1 in
     let ends : EndsTag hash bytes 4 (BodyIs message signature) = record { tag = tag_of target kind name (Some who) message signature; spells = tagged hash bytes rest target kind name who message signature g p.1.3; last = refl } in
-    (4, refl, subst (λ j. Tells hash bytes 4 j t) (sym p.1.2) (ends, p.0))
+    (4, refl, subst (λ j. Tells hash bytes 4 j (given_at t)) (sym p.1.2) (ends, ap given_at p.0))
 told hash End bytes rest i more t s p = absurd p
 
 -- Of a tag, its next item.
@@ -212,63 +214,67 @@ pub tagger_is : (hash : HashKind) (bytes rest target : List ℕ) (kind : Kind) (
 tagger_is hash bytes rest target kind name who more t s n g = tagger_same s.tagger_text s.body t.message rest t.tagger t.signature who more s.tagger_is s.body_is (behind_name_is hash bytes rest target kind name t s n) g
 
 abbrev NextOf : Next → TagText → TagToken → Next → Type 0
-NextOf s t token u = IsNext (items_left (given_at s) (items_of t)) (Some (Ok token)) (items_left (given_at u) (items_of t))
+NextOf s t token u = IsNext (left_of (given_at s) (items_of t)) (Some (Ok token)) (left_of (given_at u) (items_of t))
 
 next_tagger : (x y z b : Item) (tagger : Option IdentityText) (who : IdentityText) (token : TagToken) (u : Next) → tagger ≡ Some who → item_of token ≡ TaggerIs who → u ≡ Body
-    → IsNext (tagger_items tagger ++ b ∷ []) (Some (Ok token)) (items_left (given_at u) (x ∷ y ∷ z ∷ (tagger_items tagger ++ b ∷ [])))
+    → IsNext (tagger_items tagger ++ b ∷ []) (Some (Ok token)) (left_of (given_at u) (x ∷ y ∷ z ∷ (tagger_items tagger ++ b ∷ [])))
 next_tagger x y z b None who token u e i h = absurd (cc)
 next_tagger x y z b (Some whom) who token u e i h =
     let same : whom ≡ who = cc in
-    (i ∙ ap TaggerIs (sym same), ap (λ v. items_left (given_at v) (x ∷ y ∷ z ∷ TaggerIs whom ∷ b ∷ [])) h)
+    (i ∙ ap TaggerIs (sym same), ap (λ v. left_of (given_at v) (x ∷ y ∷ z ∷ TaggerIs whom ∷ b ∷ [])) h)
 
 next_of_tag : (hash : HashKind) (s : Next) (bytes rest : List ℕ) (token : TagToken) (more : List ℕ) (u : Next) → StandsAt hash s bytes rest → ItemAt hash s rest (item_of token) more u → (t : TagText) → SpellsTag hash bytes t → NextOf s t token u
 next_of_tag hash Target bytes rest token more u e p t s =
     let r = after_object hash bytes t s p.1.0 more p.1.2.0 (sym e ∙ p.1.2.1) in
-    (p.1.1 ∙ ap TargetIs r.0, ap (λ v. items_left (given_at v) (items_of t)) p.0)
+    (p.1.1 ∙ ap TargetIs r.0, ap (λ v. left_of (given_at v) (items_of t)) p.0)
 next_of_tag hash TargetKind bytes rest token more u (target, o) p t s =
     let r = after_type hash bytes t s target p.1.0 more o.0 (o.1 ∙ ap (λ l. target_line target ++ l) p.1.2) in
-    (p.1.1 ∙ ap TargetKindIs r.0, ap (λ v. items_left (given_at v) (items_of t)) p.0)
+    (p.1.1 ∙ ap TargetKindIs r.0, ap (λ v. left_of (given_at v) (items_of t)) p.0)
 next_of_tag hash Name bytes rest token more u (target, kind, (r', o, k)) p t s =
     let n = p.1.2 in
     let r = after_name hash bytes t s target kind p.1.0 more o.0 n.0 (o.1 ∙ ap (λ l. target_line target ++ l) (k ∙ ap (λ l. kind_line kind ++ l) n.1)) in
-    (p.1.1 ∙ ap NameIs r.0, ap (λ v. items_left (given_at v) (items_of t)) p.0)
+    (p.1.1 ∙ ap NameIs r.0, ap (λ v. left_of (given_at v) (items_of t)) p.0)
 next_of_tag hash Tagger bytes rest token more u (target, kind, name, n) (inl p) t s =
     next_tagger (TargetIs t.target) (TargetKindIs t.target_kind) (NameIs t.name) (BodyIs t.message t.signature) t.tagger p.1.0 token u (tagger_is hash bytes rest target kind name p.1.0 more t s n p.1.2) p.1.1 p.0
 next_of_tag hash Tagger bytes rest token more u (target, kind, name, n) (inr (none, p)) t s =
     let found = tag_of target kind name None p.1.0 p.1.1 in
     let same = one_tag hash bytes found t (unsigned hash bytes rest target kind name p.1.0 p.1.1 n none p.1.3) s in
-    subst (λ v. NextOf Tagger v token u) same (p.1.2, ap (λ v. items_left (given_at v) (items_of found)) p.0)
+    subst (λ v. NextOf Tagger v token u) same (p.1.2, ap (λ v. left_of (given_at v) (items_of found)) p.0)
 next_of_tag hash Body bytes rest token more u (target, kind, name, who, g) p t s =
     let found = tag_of target kind name (Some who) p.1.0 p.1.1 in
     let same = one_tag hash bytes found t (tagged hash bytes rest target kind name who p.1.0 p.1.1 g p.1.3) s in
-    subst (λ v. NextOf Body v token u) same (p.1.2, ap (λ v. items_left (given_at v) (items_of found)) p.0)
+    subst (λ v. NextOf Body v token u) same (p.1.2, ap (λ v. left_of (given_at v) (items_of found)) p.0)
 next_of_tag hash End bytes rest token more u e p t s = absurd p
 
-pub next_some : (hash : HashKind) (s : Next) (bytes rest : List ℕ) (token : TagToken) (more : List ℕ) (t : Next) → ItemAt hash s rest (item_of token) more t → StandsAt hash s bytes rest
-    → GivesItem (record { hash = hash; bytes = bytes; rest = rest; next = s }) (Some (Ok token)) (record { hash = hash; bytes = bytes; rest = more; next = t })
-next_some hash s bytes rest token more t p stands = record {
-  reached = reached hash s bytes rest (item_of token) more t stands p;
+pub next_some : (hash : HashKind) (s : Next) (bytes rest : List ℕ) (token : TagToken) (more : List ℕ) (t : Next) → HasKind hash (Some (Ok token)) → ItemAt hash s rest (item_of token) more t → StandsAt hash s bytes rest
+    → GivesPart (read_before hash bytes s) (Some (Ok token)) (read_before hash bytes t)
+next_some hash s bytes rest token more t kind p stands = record {
+  same = refl;
+  kind = kind;
   tag = next_of_tag hash s bytes rest token more t stands p;
   told = told hash s bytes rest (item_of token) more t stands p;
 }
 
 -- Fewer items are left.
-pub fewer : (hash : HashKind) (s : Next) (rest : List ℕ) (i : Item) (more : List ℕ) (t : Next) → ItemAt hash s rest i more t → most_at t < most_at s
-fewer hash Target rest i more t p = subst (λ u. most_at u < 5) (sym p.0) (omega arith)
-fewer hash TargetKind rest i more t p = subst (λ u. most_at u < 4) (sym p.0) (omega arith)
-fewer hash Name rest i more t p = subst (λ u. most_at u < 3) (sym p.0) (omega arith)
-fewer hash Tagger rest i more t (inl p) = subst (λ u. most_at u < 2) (sym p.0) (omega arith)
-fewer hash Tagger rest i more t (inr p) = subst (λ u. most_at u < 2) (sym p.1.0) (omega arith)
-fewer hash Body rest i more t p = subst (λ u. most_at u < 1) (sym p.0) (omega arith)
-fewer hash End rest i more t p = absurd p
+abbrev left_at : HashKind → List ℕ → Next → ℕ
+left_at hash bytes s = parts_left (read_before hash bytes s)
 
-pub some_left : (s : Next) → s ≢ End → 0 < most_at s
-some_left Target e = omega arith
-some_left TargetKind e = omega arith
-some_left Name e = omega arith
-some_left Tagger e = omega arith
-some_left Body e = omega arith
-some_left End e = absurd (e refl)
+pub fewer : (hash : HashKind) (bytes : List ℕ) (s : Next) (rest : List ℕ) (i : Item) (more : List ℕ) (t : Next) → ItemAt hash s rest i more t → left_at hash bytes t < left_at hash bytes s
+fewer hash bytes Target rest i more t p = subst (λ u. left_at hash bytes u < 5) (sym p.0) (omega arith)
+fewer hash bytes TargetKind rest i more t p = subst (λ u. left_at hash bytes u < 4) (sym p.0) (omega arith)
+fewer hash bytes Name rest i more t p = subst (λ u. left_at hash bytes u < 3) (sym p.0) (omega arith)
+fewer hash bytes Tagger rest i more t (inl p) = subst (λ u. left_at hash bytes u < 2) (sym p.0) (omega arith)
+fewer hash bytes Tagger rest i more t (inr p) = subst (λ u. left_at hash bytes u < 2) (sym p.1.0) (omega arith)
+fewer hash bytes Body rest i more t p = subst (λ u. left_at hash bytes u < 1) (sym p.0) (omega arith)
+fewer hash bytes End rest i more t p = absurd p
+
+pub some_left : (hash : HashKind) (bytes : List ℕ) (s : Next) → s ≢ End → left_at hash bytes End < left_at hash bytes s
+some_left hash bytes Target e = omega arith
+some_left hash bytes TargetKind e = omega arith
+some_left hash bytes Name e = omega arith
+some_left hash bytes Tagger e = omega arith
+some_left hash bytes Body e = omega arith
+some_left hash bytes End e = absurd (e refl)
 
 -- Stages put together.
 abbrev Found : HashKind → Next → List ℕ → TagToken × Bor (List ℕ) × Stage → Type 0

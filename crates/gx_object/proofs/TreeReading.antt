@@ -5,7 +5,7 @@ use Rattle.gx_hash.specs.declared.kind.HashKind.{HashKind}
 use Rattle.gx_object.specs.declared.tree.Entry.{Entry}
 use Rattle.gx_object.specs.declared.tree.decode.EntryRef.{EntryRef}
 use Rattle.gx_object.specs.TreeSpelling.{entry_of, SpellsTree, IsBadPlace, BeginsWithEntry}
-use Rattle.gx_object.proofs.TreeFronts.{entry_long, tree_push, reads_here}
+use Rattle.gx_object.specs.Laws.TreeFronts.{entry_long, tree_push, reads_here}
 
 -- the bytes are those that spell the entries so far, and the rest
 pub record HasRead (hash : HashKind) (bytes rest : List ℕ) (entries : List EntryRef) : Type 0 where

@@ -13,9 +13,9 @@ use Rattle.gx_hash.specs.ObjectId.{id_from_bytes}
 use Rattle.gx_object.specs.declared.tree.Entry.{Entry}
 use Rattle.gx_object.specs.Split.{Lacks}
 use Rattle.gx_object.specs.TreeSpelling.{SpellsMode, SpellsTree, ReadsUpTo, BeginsWithEntry}
-use Rattle.gx_object.proofs.Splits.{lacks_more}
-use Rattle.gx_object.proofs.EntryCuts.{no_space, no_mode, no_zero, no_name, no_id, entry_found}
-use Rattle.gx_object.proofs.TreeFronts.{tree_none, tree_push, reads_here}
+use Rattle.gx_object.specs.Laws.Splits.{lacks_more}
+use Rattle.gx_object.specs.Laws.EntryCuts.{no_space, no_mode, no_zero, no_name, no_id, entry_found}
+use Rattle.gx_object.specs.Laws.TreeFronts.{tree_none, tree_push, reads_here}
 use Rattle.gx_object.proofs.TreeReading.{entry_shortens}
 
 cut_or_lacks : (byte : ℕ) (text : List ℕ) → ((front : List ℕ) × (rest : List ℕ) × (text ≡ front ++ byte ∷ rest) × Lacks byte front) ⊎ Lacks byte text

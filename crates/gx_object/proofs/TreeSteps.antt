@@ -10,7 +10,7 @@ use Rattle.gx_object.specs.declared.tree.decode.EntryRef.{EntryRef}
 use Rattle.gx_object.specs.TreeSpelling.{entry_of, SpellsTree, ReadsUpTo, BeginsWithEntry}
 use Rattle.gx_object.specs.TreeIter.{HasLeft, IsOver, IsNext}
 use Rattle.gx_object.proofs.TreeKinds.{id_kind}
-use Rattle.gx_object.proofs.TreeFronts.{tree_none, tree_push, reads_here, reads_whole, reads_once, front_goes_on}
+use Rattle.gx_object.specs.Laws.TreeFronts.{tree_none, tree_push, reads_here, reads_whole, reads_once, front_goes_on}
 
 none_more : (given entries : List Entry) → given ++ entries ≡ given → length entries ≡ 0
 none_more given entries same =

@@ -17,8 +17,8 @@ use Rattle.gx_object.specs.Tag.{tagger_line, signature_bytes, tag_head_bytes, ta
 use Rattle.gx_object.specs.TagSpelling.{SpellsTagger, SignedAt, SplitsSignature, SpellsTag}
 use Rattle.gx_object.specs.WrittenText.{written_identity, written_tag, HasSeconds, IsWholeMinutes, TaggerHas, PartsSignature, CanWriteTag}
 use Rattle.gx_object.proofs.TagSignatures.{longer, whole_behind}
-use Rattle.gx_object.proofs.WrittenCommits.{id_text, identity_text_line, can_identity, owns_identity, one_line, some_bytes}
-use Rattle.gx_object.proofs.WrittenIdentities.{identity_spelled, identity_open}
+use Rattle.gx_object.specs.Laws.WrittenCommits.{id_text, identity_text_line, can_identity, owns_identity, one_line, some_bytes}
+use Rattle.gx_object.specs.Laws.WrittenIdentities.{identity_spelled, identity_open}
 
 tagger_written : (tagger : Option Signature) → is_writable_tagger tagger TaggerName ≡ true → is_writable_tagger tagger TaggerEmail ≡ true → is_writable_tagger tagger TaggerOffset ≡ true → TaggerHas HasSeconds tagger
     → SpellsTagger (tagger_line tagger) (option_map written_identity tagger)
@@ -31,7 +31,7 @@ tagger_owned : (tagger : Option Signature) → is_writable_tagger tagger TaggerO
 tagger_owned None offset seconds whole = tt
 tagger_owned (Some who) offset seconds whole = owns_identity who seconds offset whole
 
--- no line behind the message begins a later signature
+-- no line after the message begins a later signature
 no_later : (message signature : List ℕ) → IsWholeLines message → ((front rest : List ℕ) → SignedAt signature front rest → front ≡ []) → (front rest : List ℕ) → SignedAt (message ++ signature) front rest → length front ≤ length message
 no_later message signature lines one front rest at =
     elim (cases_lt (length front) (length message)) [

@@ -18,7 +18,8 @@ id_line word id = word ++ hex_of id ++ 10 ∷ []
 abbrev pub identity_line : List ℕ → Signature → List ℕ
 identity_line word who = word ++ identity_bytes who ++ 10 ∷ []
 
--- the header lines that each commit begins with: its tree, its parents in their order, its author and its committer (Git, "Git Internals - Git Objects", "Commit Objects")
+-- the header lines that each commit begins with: its tree, its parents in their order, its author and its committer
+-- (Git, "Git Internals - Git Objects", "Commit Objects")
 unfoldable pub head_bytes : ObjectId → List ObjectId → Signature → Signature → List ℕ
 head_bytes tree parents author committer =
     id_line (codes "tree ") tree ++ flat_map (id_line (codes "parent ")) parents
@@ -37,15 +38,19 @@ encoding_line (Some text) = codes "encoding " ++ text ++ 10 ∷ []
 abbrev pub folded_byte : ℕ → List ℕ
 folded_byte b = if b == 10 then 10 ∷ 32 ∷ [] else b ∷ []
 
--- A header is its name, a space and its value, whose lines after the first begin with a space. (Git, gitformat-signature, "Commit signatures")
+-- A header is its name, a space and its value, whose lines after the first begin with a space. (Git,
+-- gitformat-signature, "Commit signatures")
 abbrev pub header_line : OwnedHeader → List ℕ
 header_line h = h.name ++ 32 ∷ flat_map folded_byte h.value ++ 10 ∷ []
 
 -- A commit is its header lines, an empty line and its message.
 unfoldable pub commit_bytes : Commit → List ℕ
-commit_bytes c = head_bytes c.tree c.parents c.author c.committer ++ (encoding_line c.encoding ++ (flat_map header_line c.extra_headers ++ 10 ∷ c.message))
+commit_bytes c =
+    head_bytes c.tree c.parents c.author c.committer
+    ++ (encoding_line c.encoding ++ (flat_map header_line c.extra_headers ++ 10 ∷ c.message))
 
--- A header's name ends at the first space, and its line at a newline. (Git, commit.c, "read_commit_extra_header_lines"; that it has a byte is ours)
+-- A header's name ends at the first space, and its line at a newline. (Git, commit.c,
+-- "read_commit_extra_header_lines"; that it has a byte is ours)
 abbrev pub is_writable_header : OwnedHeader → Bool
 is_writable_header h = not (length h.name == 0) && list_all (λ b. not (b == 32) && not (b == 10)) h.name
 

@@ -1,22 +1,24 @@
 -- The parts of a commit, one after another.
-use Rattle.std.specs.Prelude.{◌≡◌, ◌≢◌, ℕ, ◌⊎◌, ◌+◌, List, [], ◌∷◌, ◌++◌, length, map, codes, Option, Some, None, Result, Ok, Err}
+use Rattle.std.specs.Prelude.{◌≡◌, ◌≢◌, ℕ, ◌⊎◌, ◌+◌, ◌-◌, ◌≤◌, drop, List, [], ◌∷◌, ◌++◌, length, map, codes, Option, Some, None, Result, Ok, Err}
 use Rattle.std.specs.List.{flat_map, AllByRecursion}
+use Rattle.std.specs.Option.{option_map_or}
 use Rattle.gx_hash.specs.declared.kind.HashKind.{HashKind}
 use Rattle.gx_hash.specs.HashKind.{IsOfKind}
 use Rattle.gx_hash.specs.ObjectId.{hex_of}
 use Rattle.bstr.specs.BStr.{bstr_bytes}
 use Rattle.gx_object.specs.declared.commit.iter.CommitToken.{CommitToken}
 use Rattle.gx_object.specs.declared.commit.iter.CommitToken.TheVariants as token
-use Rattle.gx_object.specs.declared.commit.iter.CommitRefIter.{CommitRefIter}
 use Rattle.gx_object.specs.declared.decode.DecodeError.{DecodeError}
 use Rattle.gx_object.specs.declared.decode.DecodeError.TheVariants.{Decode, NoMemory}
-use Rattle.gx_object.specs.CommitNext.{Next, Tree, Parents, Committer, Encoding, Headers, End, CommitPlace, place_of}
+use Rattle.gx_object.specs.PartsRead.{ObjectText, PartsRead, left_of}
+use Rattle.gx_object.specs.CommitNext.{Next, Tree, Parents, Committer, Encoding, Headers, End, CommitPlace}
 use Rattle.gx_object.specs.IdentitySpelling.{IdentityText, identity_text, SpellsIdentity}
-use Rattle.gx_object.specs.CommitSpelling.{IsHexId, HeaderText, CommitText, IsHeader, IsEncodingHeader, HasEncoding, IsOneLine, IsNoCommit, SpellsCommit, header_text, raw_line, text_line}
+use Rattle.gx_hash.specs.IdDigits.{IsHexId}
+use Rattle.gx_object.specs.CommitSpelling.{HeaderText, CommitText, IsHeader, IsEncodingHeader, HasEncoding, IsOneLine, IsNoCommit, SpellsCommit, header_text, raw_line, text_line}
 use Rattle.gx_object.specs.Commit.{encoding_line}
 use Rattle.gx_object.specs.CommitLines.{HasLine, IsHeaderLine, HasIdentityLine, HasHeader, HasHeaders, AddsHeaders, HasParents, IsNoFold}
 
--- a part of a commit, as place stands in an object
+-- a part of a commit, as it stands in an object
 pub data Item : Type 0 where
   TreeId : (id : List ℕ) → Item
   ParentId : (id : List ℕ) → Item
@@ -26,37 +28,47 @@ pub data Item : Type 0 where
   HeaderIs : (header : HeaderText) → Item
   MessageIs : (text : List ℕ) → Item
 
+-- the encoding as a part, where there is one
 abbrev pub encoding_items : Option (List ℕ) → List Item
 encoding_items None = []
 encoding_items (Some text) = EncodingIs text ∷ []
 
+-- the parts after the committer
 abbrev pub late_items : Option (List ℕ) → List HeaderText → List ℕ → List Item
 late_items encoding headers message = encoding_items encoding ++ (map HeaderIs headers ++ MessageIs message ∷ [])
 
 -- the parts of a commit, in their order
 abbrev pub items_of : CommitText → List Item
-items_of c = TreeId c.tree ∷ (map ParentId c.parents ++ AuthorIs c.author ∷ CommitterIs c.committer ∷ late_items c.encoding c.extra_headers c.message)
+items_of c =
+    TreeId c.tree ∷ (map ParentId c.parents
+    ++ AuthorIs c.author ∷ CommitterIs c.committer ∷ late_items c.encoding c.extra_headers c.message)
 
 -- a line with a word and an id in front
 abbrev pub HasIdLine : HashKind → List ℕ → List ℕ → List ℕ → List ℕ → Type 0
 HasIdLine hash word bytes id more = IsHexId hash id × (bytes ≡ text_line word id ++ more)
 
--- what the first header behind the committer is
+-- what the first header after the committer is
 abbrev pub IsFirstItem : HeaderText → Item → Type 0
 IsFirstItem h i = (IsEncodingHeader h × (i ≡ EncodingIs h.raw)) ⊎ ((IsEncodingHeader h → ⊥) × (i ≡ HeaderIs h))
 
+-- the message after an empty line, which ends the commit
 abbrev pub IsMessage : List ℕ → Item → List ℕ → Next → Type 0
 IsMessage bytes i more t = (t ≡ End) × (more ≡ []) × ((text : List ℕ) × (i ≡ MessageIs text) × (bytes ≡ 10 ∷ text))
 
--- the item that comes next in the bytes, and what stands behind place
+-- the item that comes next in the bytes, what follows it, and what comes next there
 abbrev pub ItemAt : HashKind → Next → List ℕ → Item → List ℕ → Next → Type 0
-ItemAt hash Tree bytes i more t = (t ≡ Parents) × ((id : List ℕ) × (i ≡ TreeId id) × HasIdLine hash (codes "tree ") bytes id more)
+ItemAt hash Tree bytes i more t =
+    (t ≡ Parents) × ((id : List ℕ) × (i ≡ TreeId id) × HasIdLine hash (codes "tree ") bytes id more)
 ItemAt hash Parents bytes i more t =
     ((t ≡ Parents) × ((id : List ℕ) × (i ≡ ParentId id) × HasIdLine hash (codes "parent ") bytes id more))
     ⊎ ((t ≡ Committer) × ((who : IdentityText) × (i ≡ AuthorIs who) × HasIdentityLine (codes "author ") bytes who more))
-ItemAt hash Committer bytes i more t = (t ≡ Encoding) × ((who : IdentityText) × (i ≡ CommitterIs who) × HasIdentityLine (codes "committer ") bytes who more)
-ItemAt hash Encoding bytes i more t = ((t ≡ Headers) × ((h : HeaderText) × HasHeader bytes h more × IsFirstItem h i)) ⊎ IsMessage bytes i more t
-ItemAt hash Headers bytes i more t = ((t ≡ Headers) × ((h : HeaderText) × HasHeader bytes h more × (i ≡ HeaderIs h))) ⊎ IsMessage bytes i more t
+ItemAt hash Committer bytes i more t =
+    (t ≡ Encoding) × ((who : IdentityText) × (i ≡ CommitterIs who)
+    × HasIdentityLine (codes "committer ") bytes who more)
+ItemAt hash Encoding bytes i more t =
+    ((t ≡ Headers) × ((h : HeaderText) × HasHeader bytes h more × IsFirstItem h i)) ⊎ IsMessage bytes i more t
+ItemAt hash Headers bytes i more t =
+    ((t ≡ Headers) × ((h : HeaderText) × HasHeader bytes h more × (i ≡ HeaderIs h))) ⊎ IsMessage bytes i more t
 ItemAt hash End bytes i more t = ⊥
 
 -- the bytes are these items and nothing else
@@ -64,10 +76,11 @@ abbrev pub ReadsAll : HashKind → Next → List ℕ → List Item → Type 0
 ReadsAll hash s bytes [] = s ≡ End
 ReadsAll hash s bytes (i ∷ is) = (more : List ℕ) × (t : Next) × ItemAt hash s bytes i more t × ReadsAll hash t more is
 
--- an id or an identity behind a word
+-- the line is a word and an id
 abbrev pub HasId : HashKind → List ℕ → List ℕ → Type 0
 HasId hash word line = (text : List ℕ) × IsHexId hash text × (line ≡ word ++ text)
 
+-- the line is a word and an identity
 abbrev pub HasWho : List ℕ → List ℕ → Type 0
 HasWho word line = (text : List ℕ) × (who : IdentityText) × SpellsIdentity text who × (line ≡ word ++ text)
 
@@ -84,6 +97,7 @@ Allows hash End line = ⊥
 abbrev pub Stuck : HashKind → Next → List ℕ → Type 0
 Stuck hash s rest = (line more : List ℕ) → HasLine rest line more → Allows hash s line → ⊥
 
+-- the part that a token is
 abbrev pub item_of : CommitToken → Item
 item_of (token.Tree id) = TreeId (hex_of id)
 item_of (token.Parent id) = ParentId (hex_of id)
@@ -93,13 +107,15 @@ item_of (token.Encoding text) = EncodingIs (bstr_bytes text)
 item_of (token.ExtraHeader header) = HeaderIs (header_text header)
 item_of (token.Message text) = MessageIs (bstr_bytes text)
 
--- The lines in front of what is left: a tree and parents, with an author, with a committer, with an encoding and headers.
+-- The lines in front of what is left: a tree and parents, with an author, with a committer, with an
+-- encoding and headers.
 pub record TreeFront (hash : HashKind) : Type 0 where
   pub tree : List ℕ
   pub parents : List (List ℕ)
   pub tree_id : IsHexId hash tree
   pub parent_ids : AllByRecursion (IsHexId hash) parents
 
+-- the lines up to the author
 pub record AuthorFront (hash : HashKind) : Type 0 where
   pub before : TreeFront hash
   pub line : List ℕ
@@ -107,6 +123,7 @@ pub record AuthorFront (hash : HashKind) : Type 0 where
   pub one : IsOneLine line
   pub spells : SpellsIdentity line who
 
+-- the lines up to the committer
 pub record CommitterFront (hash : HashKind) : Type 0 where
   pub before : AuthorFront hash
   pub line : List ℕ
@@ -114,6 +131,7 @@ pub record CommitterFront (hash : HashKind) : Type 0 where
   pub one : IsOneLine line
   pub spells : SpellsIdentity line who
 
+-- the lines up to some of the headers
 pub record HeadersFront (hash : HashKind) : Type 0 where
   pub before : CommitterFront hash
   pub encoding : Option (List ℕ)
@@ -122,27 +140,35 @@ pub record HeadersFront (hash : HashKind) : Type 0 where
   pub each : AllByRecursion IsHeader headers
   pub some : (encoding ≢ None) ⊎ (headers ≢ [])
 
+-- the bytes of the lines with the tree and parents
 abbrev pub tree_front : {hash : HashKind} → TreeFront hash → List ℕ
 tree_front f = text_line (codes "tree ") f.tree ++ flat_map (text_line (codes "parent ")) f.parents
 
+-- the bytes of the lines up to the author
 abbrev pub author_front : {hash : HashKind} → AuthorFront hash → List ℕ
 author_front f = tree_front f.before ++ text_line (codes "author ") f.line
 
+-- the bytes of the lines up to the committer
 abbrev pub committer_front : {hash : HashKind} → CommitterFront hash → List ℕ
 committer_front f = author_front f.before ++ text_line (codes "committer ") f.line
 
+-- the bytes of the lines up to the headers
 abbrev pub headers_front : {hash : HashKind} → HeadersFront hash → List ℕ
 headers_front f = committer_front f.before ++ (encoding_line f.encoding ++ flat_map raw_line f.headers)
 
+-- the parts in the lines with the tree and parents
 abbrev pub tree_items : {hash : HashKind} → TreeFront hash → List Item
 tree_items f = TreeId f.tree ∷ map ParentId f.parents
 
+-- the parts in the lines up to the author
 abbrev pub author_items : {hash : HashKind} → AuthorFront hash → List Item
 author_items f = tree_items f.before ++ AuthorIs f.who ∷ []
 
+-- the parts in the lines up to the committer
 abbrev pub committer_items : {hash : HashKind} → CommitterFront hash → List Item
 committer_items f = author_items f.before ++ CommitterIs f.who ∷ []
 
+-- the parts in the lines up to the headers
 abbrev pub headers_items : {hash : HashKind} → HeadersFront hash → List Item
 headers_items f = committer_items f.before ++ (encoding_items f.encoding ++ map HeaderIs f.headers)
 
@@ -151,15 +177,16 @@ abbrev pub FrontIs : HashKind → Next → List ℕ → List Item → Type 0
 FrontIs hash Tree front items = (front ≡ []) × (items ≡ [])
 FrontIs hash Parents front items = (f : TreeFront hash) × (front ≡ tree_front f) × (items ≡ tree_items f)
 FrontIs hash Committer front items = (f : AuthorFront hash) × (front ≡ author_front f) × (items ≡ author_items f)
-FrontIs hash Encoding front items = (f : CommitterFront hash) × (front ≡ committer_front f) × (items ≡ committer_items f)
+FrontIs hash Encoding front items =
+    (f : CommitterFront hash) × (front ≡ committer_front f) × (items ≡ committer_items f)
 FrontIs hash Headers front items = (f : HeadersFront hash) × (front ≡ headers_front f) × (items ≡ headers_items f)
 FrontIs hash End front items = (c : CommitText) × SpellsCommit hash front c × (items ≡ items_of c)
 
--- no line of a header is left where a header stands before place
+-- after a header no further line of it is left
 abbrev pub EndsHeader : Next → List ℕ → Type 0
 EndsHeader s rest = s ≡ Headers → IsNoFold rest
 
--- The iterator has given these items: they are the lines in front of what place has left.
+-- The iterator has given these items: they are the lines in front of what is left.
 pub record Given (place : CommitPlace) (items : List Item) : Type 0 where
   pub front : List ℕ
   pub whole : place.bytes ≡ front ++ place.rest
@@ -170,6 +197,7 @@ pub record Given (place : CommitPlace) (items : List Item) : Type 0 where
 abbrev pub Left : CommitPlace → List Item → Type 0
 Left place items = ReadsAll place.hash place.next place.rest items
 
+-- of the parts that were left, the first is given and the others are left
 abbrev pub LeftBehind : List Item → Option (Result CommitToken DecodeError) → CommitPlace → Type 0
 LeftBehind [] result new = (result ≡ None) × Left new []
 LeftBehind (i ∷ is) result new = (token : CommitToken) × (result ≡ Some (Ok token)) × (item_of token ≡ i) × Left new is
@@ -179,6 +207,7 @@ abbrev pub IsRefusal : CommitPlace → DecodeError → Type 0
 IsRefusal place (Decode at) = IsNoCommit place.hash place.bytes at × (at + length place.rest ≡ length place.bytes)
 IsRefusal place NoMemory = ⊥
 
+-- the parts given so far and the next are the lines in front; or the bytes go wrong here
 abbrev pub GivenBehind : CommitPlace → List Item → Option (Result CommitToken DecodeError) → CommitPlace → Type 0
 GivenBehind old items None new = (old.next ≡ End) × (new ≡ old)
 GivenBehind old items (Some (Ok token)) new = Given new (items ++ item_of token ∷ [])
@@ -191,7 +220,8 @@ HasKind hash (Some (Ok (token.Parent id))) = IsOfKind hash id
 HasKind hash result = Unit {0}
 
 -- what a call of the iterator gives
-pub record NextItem (old : CommitPlace) (result : Option (Result CommitToken DecodeError)) (new : CommitPlace) : Type 0 where
+pub record NextItem (old : CommitPlace) (result : Option (Result CommitToken DecodeError))
+    (new : CommitPlace) : Type 0 where
   pub bytes : new.bytes ≡ old.bytes
   pub hash : new.hash ≡ old.hash
   pub kind : HasKind old.hash result
@@ -200,74 +230,151 @@ pub record NextItem (old : CommitPlace) (result : Option (Result CommitToken Dec
   -- of other bytes, the items in front of their place, and then the refusal
   pub given : (items : List Item) → Given old items → GivenBehind old items result new
 
-abbrev pub GivesNext : CommitRefIter → Option (Result CommitToken DecodeError) → CommitRefIter → Type 0
-GivesNext old result new = NextItem (place_of old) result (place_of new)
+-- ---- what a call of the iterator gives
+
+-- the next of these items, and then the end
+abbrev pub IsNext : List Item → Option (Result CommitToken DecodeError) → List Item → Type 0
+IsNext [] None after = after ≡ []
+IsNext (i ∷ is) (Some (Ok token)) after = (item_of token ≡ i) × (after ≡ is)
+IsNext items result after = ⊥
+
+-- The bytes begin with lines of items, the last of which is this one, and n stand before it.
+pub record StandsAt (text : ObjectText) (n : ℕ) (i : Item) : Type 0 where
+  pub stage : Next
+  pub front : List ℕ
+  pub rest : List ℕ
+  pub before : List Item
+  pub whole : text.bytes ≡ front ++ rest
+  pub front_is : FrontIs text.hash stage front (before ++ i ∷ [])
+  pub count : length before ≡ n
+
+-- The bytes spell a commit whose items end with this one, and n stand before it.
+pub record EndsCommit (text : ObjectText) (n : ℕ) (i : Item) : Type 0 where
+  pub commit : CommitText
+  pub spells : SpellsCommit text.hash text.bytes commit
+  pub last : drop n (items_of commit) ≡ i ∷ []
+
+-- The bytes spell no commit, and go wrong after the lines of n items.
+pub record GoesWrongAfter (text : ObjectText) (n : ℕ) (e : DecodeError) : Type 0 where
+  pub at : ℕ
+  pub error : e ≡ Decode at
+  pub none : IsNoCommit text.hash text.bytes at
+  pub stage : Next
+  pub front : List ℕ
+  pub before : List Item
+  pub at_is : at ≡ length front
+  pub front_is : FrontIs text.hash stage front before
+  pub count : length before ≡ n
+
+-- the item stands in a line and more may come, or it is the last of a commit
+abbrev pub Tells : ObjectText → ℕ → Item → Option ℕ → Type 0
+Tells text n i (Some given) = (given ≡ n + 1) × StandsAt text n i
+Tells text n i None = EndsCommit text n i
+
+-- Of all bytes, the items that lines in front have, and the message where a commit is spelled; else the refusal; and
+-- then the end.
+abbrev pub IsTold : PartsRead → Option (Result CommitToken DecodeError) → Option ℕ → Type 0
+IsTold old (Some (Ok token)) given = (n : ℕ) × (old.given ≡ Some n) × Tells old.text n (item_of token) given
+IsTold old (Some (Err error)) given = (n : ℕ) × (old.given ≡ Some n) × GoesWrongAfter old.text n error × (given ≡ None)
+IsTold old None given = (old.given ≡ None) × (given ≡ None)
+
+-- What a call of the iterator gives: of a commit, the next of its items, and of all bytes what their lines have.
+pub record GivesPart (old : PartsRead) (result : Option (Result CommitToken DecodeError))
+    (new : PartsRead) : Type 0 where
+  pub same : new.text ≡ old.text
+  pub kind : HasKind old.text.hash result
+  pub commit : (c : CommitText) → SpellsCommit old.text.hash old.text.bytes c
+      → IsNext (left_of old.given (items_of c)) result (left_of new.given (items_of c))
+  pub told : IsTold old result new.given
+
+-- No more items come than bytes are left, and an error or the end.
+abbrev pub parts_left : PartsRead → ℕ
+parts_left read = option_map_or (λ n. length read.text.bytes - n + 1) read.given 0
+
+-- ---- how an iterator came to where it is
+
+-- it has given n items, and has these left of a commit
+pub record IsAt (place : CommitPlace) (n : ℕ) : Type 0 where
+  pub items : List Item
+  pub given : Given place items
+  pub count : length items ≡ n
+  pub left : (c : CommitText) → SpellsCommit place.hash place.bytes c → Left place (drop n (items_of c))
+  pub short : n + length place.rest ≤ length place.bytes
+
+-- until it has ended
+abbrev pub IsReached : CommitPlace → ℕ → Type 0
+IsReached place n = place.next ≢ End → IsAt place n
+
+-- the number of items that were given, until it has ended
+abbrev pub given_at : Next → ℕ → Option ℕ
+given_at End n = None
+given_at s n = Some n
 
 -- how many items are left at most
 abbrev pub items_left_at : Next → ℕ → ℕ
 items_left_at End bytes = 0
 items_left_at s bytes = bytes + 1
 
-abbrev pub items_left : CommitRefIter → ℕ
-items_left it = items_left_at (place_of it).next (length (place_of it).rest)
-
 -- A front of the bytes is the lines of items that end with this one.
-pub record StandsInFront (place : CommitPlace) (i : Item) : Type 0 where
+pub record StandsInFront (text : ObjectText) (i : Item) : Type 0 where
   pub stage : Next
   pub front : List ℕ
   pub rest : List ℕ
   pub items : List Item
-  pub whole : place.bytes ≡ front ++ rest
-  pub front_is : FrontIs place.hash stage front (items ++ i ∷ [])
+  pub whole : text.bytes ≡ front ++ rest
+  pub front_is : FrontIs text.hash stage front (items ++ i ∷ [])
 
--- The bytes spell no commit, and go wrong behind the lines that stand before this stage.
-pub record GoesWrong (place : CommitPlace) (stage : Next) (e : DecodeError) : Type 0 where
+-- The bytes spell no commit, and go wrong after the lines that stand before this stage.
+pub record GoesWrong (text : ObjectText) (stage : Next) (e : DecodeError) : Type 0 where
   pub at : ℕ
   pub error : e ≡ Decode at
-  pub none : IsNoCommit place.hash place.bytes at
+  pub none : IsNoCommit text.hash text.bytes at
   pub front : List ℕ
   pub items : List Item
   pub at_is : at ≡ length front
-  pub front_is : FrontIs place.hash stage front items
+  pub front_is : FrontIs text.hash stage front items
 
--- in or before the author's line, in or before the committer's
-abbrev pub GoesWrongByAuthor : CommitPlace → DecodeError → Type 0
-GoesWrongByAuthor place e = GoesWrong place Tree e ⊎ GoesWrong place Parents e
+-- the bytes go wrong in or before the line of the author
+abbrev pub GoesWrongByAuthor : ObjectText → DecodeError → Type 0
+GoesWrongByAuthor text e = GoesWrong text Tree e ⊎ GoesWrong text Parents e
 
-abbrev pub GoesWrongByCommitter : CommitPlace → DecodeError → Type 0
-GoesWrongByCommitter place e = GoesWrongByAuthor place e ⊎ GoesWrong place Committer e
+-- the bytes go wrong in or before the line of the committer
+abbrev pub GoesWrongByCommitter : ObjectText → DecodeError → Type 0
+GoesWrongByCommitter text e = GoesWrongByAuthor text e ⊎ GoesWrong text Committer e
 
--- the lines up to an author stand in front of the rest, and up to a committer
-pub record HasAuthor (place : CommitPlace) (who : IdentityText) (rest : List ℕ) : Type 0 where
-  pub lines : AuthorFront place.hash
-  pub whole : place.bytes ≡ author_front lines ++ rest
+-- the lines up to an author stand in front of the rest
+pub record HasAuthor (text : ObjectText) (who : IdentityText) (rest : List ℕ) : Type 0 where
+  pub lines : AuthorFront text.hash
+  pub whole : text.bytes ≡ author_front lines ++ rest
   pub who_is : lines.who ≡ who
 
-pub record HasCommitter (place : CommitPlace) (who : IdentityText) (rest : List ℕ) : Type 0 where
-  pub lines : CommitterFront place.hash
-  pub whole : place.bytes ≡ committer_front lines ++ rest
+-- the lines up to the committer stand in front of the rest
+pub record HasCommitter (text : ObjectText) (who : IdentityText) (rest : List ℕ) : Type 0 where
+  pub lines : CommitterFront text.hash
+  pub whole : text.bytes ≡ committer_front lines ++ rest
   pub who_is : lines.who ≡ who
 
--- some parents stand in front, and no further one behind them
+-- some parents stand in front, and no further one after them
 abbrev pub SkipsParents : HashKind → List ℕ → List ℕ → Type 0
 SkipsParents hash bytes rest = (parents : List (List ℕ)) × HasParents hash bytes parents rest
 
--- an encoding and headers stand in front, and no further one behind them
+-- an encoding and headers stand in front, and no further one after them
 abbrev pub SkipsHeaders : List ℕ → List ℕ → Type 0
-SkipsHeaders bytes rest = (encoding : Option (List ℕ)) × (headers : List HeaderText) × HasHeaders bytes encoding headers rest
+SkipsHeaders bytes rest =
+    (encoding : Option (List ℕ)) × (headers : List HeaderText) × HasHeaders bytes encoding headers rest
 
 -- further headers stand in front
 abbrev pub SkipsFurther : List ℕ → List ℕ → Type 0
 SkipsFurther bytes rest = (headers : List HeaderText) × AddsHeaders bytes [] headers rest
 
 -- the bytes spell a commit with this message
-pub record SpellsMessage (place : CommitPlace) (text : List ℕ) : Type 0 where
+pub record SpellsMessage (text : ObjectText) (said : List ℕ) : Type 0 where
   pub commit : CommitText
-  pub spells : SpellsCommit place.hash place.bytes commit
-  pub message : commit.message ≡ text
+  pub spells : SpellsCommit text.hash text.bytes commit
+  pub message : commit.message ≡ said
 
 -- the bytes spell no commit, and go wrong at the place
-pub record SpellsNone (place : CommitPlace) (e : DecodeError) : Type 0 where
+pub record SpellsNone (text : ObjectText) (e : DecodeError) : Type 0 where
   pub at : ℕ
   pub error : e ≡ Decode at
-  pub none : IsNoCommit place.hash place.bytes at
+  pub none : IsNoCommit text.hash text.bytes at

@@ -1,11 +1,11 @@
 -- Where an iterator over a commit stands.
 use Rattle.std.specs.Prelude.{ℕ, List}
 use Rattle.gx_hash.specs.declared.kind.HashKind.{HashKind}
-use Rattle.gx_object.specs.declared.commit.iter.CommitRefIter.{CommitRefIter}
 use Rattle.gx_object.specs.declared.commit.iter.Stage.{Stage}
 use Rattle.gx_object.specs.declared.commit.iter.Stage.TheVariants as stage
 
--- what comes next in a commit, where `Parents` is a parent or the author, `Encoding` the encoding or what follows it, and `Headers` a further header or the message
+-- what comes next in a commit, where `Parents` is a parent or the author, `Encoding` the encoding or what follows it,
+-- and `Headers` a further header or the message
 pub data Next : Type 0 where
   Tree : Next
   Parents : Next
@@ -14,6 +14,7 @@ pub data Next : Type 0 where
   Headers : Next
   End : Next
 
+-- what the code calls it
 abbrev pub next_of : Stage → Next
 next_of stage.Tree = Tree
 next_of stage.Parents = Parents
@@ -28,6 +29,3 @@ pub record CommitPlace : Type 0 where
   pub bytes : List ℕ
   pub rest : List ℕ
   pub next : Next
-
-abbrev pub place_of : CommitRefIter → CommitPlace
-place_of it = record { hash = it.hash; bytes = it.bytes.now; rest = it.rest.now; next = next_of it.stage }

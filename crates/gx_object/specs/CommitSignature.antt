@@ -7,20 +7,25 @@ use Rattle.gx_object.specs.declared.decode.DecodeError.{DecodeError}
 use Rattle.gx_object.specs.declared.decode.DecodeError.TheVariants.{Decode, NoMemory}
 use Rattle.gx_object.specs.CommitSpelling.{HeaderText, CommitText, SpellsCommit, IsNoCommit, raw_line, folded}
 
--- the name of the header that holds a commit's signature, in a repository of each kind (Git, hash-function-transition, "Signed Commits")
+-- the name of the header that holds a commit's signature, in a repository of each kind (Git,
+-- hash-function-transition, "Signed Commits")
 abbrev pub signature_name : HashKind → List ℕ
 signature_name hash_kind.Sha1 = codes "gpgsig"
 signature_name hash_kind.Sha256 = codes "gpgsig-sha256"
 
+-- the header has another name
 abbrev pub IsOther : List ℕ → HeaderText → Type 0
 IsOther name h = h.name ≢ name
 
--- the lines of headers, and the empty line and the message behind them
+-- the lines of headers, and the empty line and the message after them
 abbrev pub lines_to_end : List HeaderText → List ℕ → List ℕ
 lines_to_end headers message = flat_map raw_line headers ++ 10 ∷ message
 
--- The header is the first of the signature's name in this commit, and what it signs are the commit's bytes without the lines of that header. (Git, gitformat-signature, "Commit signatures")
-pub record HasSignature (hash : HashKind) (bytes : List ℕ) (c : CommitText) (header : HeaderText) (signed : List ℕ) : Type 0 where
+-- The header is the first of the signature's name in this commit, and what it signs are the commit's bytes without the
+-- lines of that header. (Git, gitformat-signature, "Commit signatures"; that of several such headers the first alone
+-- goes is gix's)
+pub record HasSignature (hash : HashKind) (bytes : List ℕ) (c : CommitText)
+    (header : HeaderText) (signed : List ℕ) : Type 0 where
   pub before : List HeaderText
   pub behind : List HeaderText
   pub front : List ℕ
@@ -36,7 +41,8 @@ HasNoSignature hash c = AllByRecursion (IsOther (signature_name hash)) c.extra_h
 
 -- the value of the signature is that header's value
 abbrev pub IsSignature : HashKind → List ℕ → CommitText → List ℕ → List ℕ → Type 0
-IsSignature hash bytes c value signed = (header : HeaderText) × HasSignature hash bytes c header signed × (header.raw ≡ folded value)
+IsSignature hash bytes c value signed =
+    (header : HeaderText) × HasSignature hash bytes c header signed × (header.raw ≡ folded value)
 
 -- what is told of a commit: that it has no signature, or its value and what it signs
 abbrev pub TellsSignature : HashKind → List ℕ → CommitText → Option (List ℕ × List ℕ) → Type 0
@@ -61,13 +67,14 @@ IsSignedBy hash bytes value signed = SpellsSome hash bytes (λ c. IsSignature ha
 abbrev pub RefusesCommit : HashKind → List ℕ → DecodeError → Type 0
 RefusesCommit hash bytes error = (at : ℕ) × (error ≡ Decode at) × IsNoCommit hash bytes at
 
--- Bytes that spell no commit are refused at their place. Memory is wanted for a signature alone.
+-- Bytes that spell no commit are refused at their place. Only a signature is out of memory.
 abbrev pub MissesSignature : HashKind → List ℕ → DecodeError → Type 0
 MissesSignature hash bytes (Decode at) = IsNoCommit hash bytes at
 MissesSignature hash bytes NoMemory = (value : List ℕ) × (signed : List ℕ) × IsSignedBy hash bytes value signed
 
--- The headers in front have one of this name, and none of it before: the lines from it on, and those behind it.
-pub record FirstNamed (name : List ℕ) (headers : List HeaderText) (message : List ℕ) (header : HeaderText) (lines rest : List ℕ) : Type 0 where
+-- The headers in front have one of this name, and none of it before: the lines from it on, and those after it.
+pub record FirstNamed (name : List ℕ) (headers : List HeaderText) (message : List ℕ)
+    (header : HeaderText) (lines rest : List ℕ) : Type 0 where
   pub before : List HeaderText
   pub behind : List HeaderText
   pub headers_are : headers ≡ before ++ header ∷ behind

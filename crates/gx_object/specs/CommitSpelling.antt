@@ -3,6 +3,7 @@ use Rattle.std.specs.Prelude.{◌≡◌, ◌≢◌, ℕ, ◌≤◌, ◌*◌, ◌
 use Rattle.std.specs.List.{flat_map, AllByRecursion}
 use Rattle.std.specs.Option.{option_map}
 use Rattle.bstr.specs.BStr.{bstr_bytes}
+use Rattle.gx_hash.specs.IdDigits.{IsHexId}
 use Rattle.gx_hash.specs.HashKind.{kind_of, len_in_bytes}
 use Rattle.gx_hash.specs.ObjectId.{hex_of}
 use Rattle.gx_hash.specs.declared.oid.ObjectId.{ObjectId}
@@ -27,9 +28,11 @@ pub record CommitText : Type 0 where
   pub extra_headers : List HeaderText
   pub message : List ℕ
 
+-- the texts of a header that was read
 abbrev pub header_text : ExtraHeader → HeaderText
 header_text h = record { name = bstr_bytes h.name; raw = bstr_bytes h.raw }
 
+-- the texts of a commit that was read
 abbrev pub commit_text : CommitRef → CommitText
 commit_text c = record {
   tree = bstr_bytes c.tree;
@@ -41,19 +44,6 @@ commit_text c = record {
   message = bstr_bytes c.message;
 }
 
--- 0 to 9, and a to f
-abbrev pub IsLowerHexDigit : ℕ → Type 0
-IsLowerHexDigit b = ((48 ≤ b) × (b ≤ 57)) ⊎ ((97 ≤ b) × (b ≤ 102))
-
--- An id stands in a header as its hex digits, two a byte, in lower case. (Git, "Git Internals - Git Objects")
-pub record IsHexId (hash : HashKind) (text : List ℕ) : Type 0 where
-  pub size : length text ≡ 2 * len_in_bytes hash
-  pub digits : AllByRecursion IsLowerHexDigit text
-
--- an id's digits are those of its kind, as they are of each id that a program holds
-abbrev pub HasOwnDigits : ObjectId → Type 0
-HasOwnDigits id = IsHexId (kind_of id) (hex_of id)
-
 -- the text has no newline
 abbrev pub IsOneLine : List ℕ → Type 0
 IsOneLine text = AllByRecursion (λ b. b ≢ 10) text
@@ -62,14 +52,17 @@ IsOneLine text = AllByRecursion (λ b. b ≢ 10) text
 abbrev pub IsEncoding : List ℕ → Type 0
 IsEncoding text = (text ≢ []) × IsOneLine text
 
--- a header's name has at least one byte, no space and no newline (Git, commit.c, "read_commit_extra_header_lines"; that it has a byte is ours)
+-- a header's name has at least one byte, no space and no newline (Git, commit.c, "read_commit_extra_header_lines";
+-- that it has a byte is ours)
 abbrev pub IsHeaderName : List ℕ → Type 0
 IsHeaderName name = (name ≢ []) × AllByRecursion (λ b. (b ≢ 32) × (b ≢ 10)) name
 
--- a value as it stands in an object: a space follows each of its newlines (Git, gitformat-signature, "Commit signatures")
+-- a value as it stands in an object: a space follows each of its newlines (Git,
+-- gitformat-signature, "Commit signatures")
 abbrev pub folded : List ℕ → List ℕ
 folded value = flat_map folded_byte value
 
+-- the header has a name, and a value that is folded
 abbrev pub IsHeader : HeaderText → Type 0
 IsHeader h = IsHeaderName h.name × ((value : List ℕ) × (h.raw ≡ folded value))
 
@@ -77,7 +70,8 @@ IsHeader h = IsHeaderName h.name × ((value : List ℕ) × (h.raw ≡ folded val
 abbrev pub IsEncodingHeader : HeaderText → Type 0
 IsEncodingHeader h = (h.name ≡ codes "encoding") × IsEncoding h.raw
 
--- The first header behind the committer is the encoding, if it is spelled as one. (Ours: Git reads the first such header, wherever it stands)
+-- The first header after the committer is the encoding, if it is spelled as one. (Ours: Git reads the first such
+-- header, wherever it stands)
 abbrev pub HasEncoding : Option (List ℕ) → List HeaderText → Type 0
 HasEncoding (Some text) headers = IsEncoding text
 HasEncoding None [] = Unit {0}
@@ -87,14 +81,21 @@ HasEncoding None (h ∷ headers) = IsEncodingHeader h → ⊥
 abbrev pub text_line : List ℕ → List ℕ → List ℕ
 text_line word text = word ++ (text ++ 10 ∷ [])
 
+-- the lines of a header, as they stand in an object
 abbrev pub raw_line : HeaderText → List ℕ
 raw_line h = h.name ++ (32 ∷ h.raw ++ 10 ∷ [])
 
--- A commit is lines with its tree, its parents, its author and its committer, one with the message's encoding where it is told, further headers, an empty line, and the message. (Git, "Git Internals - Git Objects", "Commit Objects"; gitformat-signature, "Commit signatures")
+-- A commit is lines with its tree, its parents, its author and its committer, one with the message's encoding where
+-- it is told, further headers, an empty line, and the message. (Git, "Git Internals - Git Objects", "Commit Objects";
+-- gitformat-signature, "Commit signatures")
 pub record SpellsCommit (hash : HashKind) (bytes : List ℕ) (c : CommitText) : Type 0 where
   pub author_line : List ℕ
   pub committer_line : List ℕ
-  pub whole : bytes ≡ text_line (codes "tree ") c.tree ++ (flat_map (text_line (codes "parent ")) c.parents ++ (text_line (codes "author ") author_line ++ (text_line (codes "committer ") committer_line ++ (encoding_line c.encoding ++ (flat_map raw_line c.extra_headers ++ 10 ∷ c.message)))))
+  pub whole : bytes ≡ text_line (codes "tree ") c.tree
+      ++ (flat_map (text_line (codes "parent ")) c.parents
+      ++ (text_line (codes "author ") author_line
+      ++ (text_line (codes "committer ") committer_line
+      ++ (encoding_line c.encoding ++ (flat_map raw_line c.extra_headers ++ 10 ∷ c.message)))))
   pub tree_id : IsHexId hash c.tree
   pub parent_ids : AllByRecursion (IsHexId hash) c.parents
   pub author_open : IsOneLine author_line
@@ -104,7 +105,7 @@ pub record SpellsCommit (hash : HashKind) (bytes : List ℕ) (c : CommitText) : 
   pub encoding_is : HasEncoding c.encoding c.extra_headers
   pub headers : AllByRecursion IsHeader c.extra_headers
 
--- some bytes behind the front make it spell a commit
+-- some bytes after the front make it spell a commit
 pub record BeginsCommit (hash : HashKind) (front : List ℕ) : Type 0 where
   pub more : List ℕ
   pub commit : CommitText
@@ -121,7 +122,7 @@ pub record BeginsWith (hash : HashKind) (bytes front : List ℕ) : Type 0 where
   pub lines : IsWholeLines front
   pub begins : BeginsCommit hash front
 
--- The bytes spell no commit, and go wrong in the line that begins behind the longest such front.
+-- The bytes spell no commit, and go wrong in the line that begins after the longest such front.
 pub record IsNoCommit (hash : HashKind) (bytes : List ℕ) (at : ℕ) : Type 0 where
   pub none : (c : CommitText) → SpellsCommit hash bytes c → ⊥
   pub front : List ℕ
@@ -129,10 +130,11 @@ pub record IsNoCommit (hash : HashKind) (bytes : List ℕ) (at : ℕ) : Type 0 w
   pub good : BeginsWith hash bytes front
   pub longest : (other : List ℕ) → BeginsWith hash bytes other → length other ≤ length front
 
--- a text without the one space behind each newline; the flag tells whether it stands behind one
+-- a text without the one space after each newline; the flag tells whether it follows one
 abbrev pub unfolded_behind : Bool → List ℕ → List ℕ
 unfolded_behind newline [] = []
-unfolded_behind newline (b ∷ bs) = if newline && b == 32 then unfolded_behind false bs else b ∷ unfolded_behind (b == 10) bs
+unfolded_behind newline (b ∷ bs) =
+    if newline && b == 32 then unfolded_behind false bs else b ∷ unfolded_behind (b == 10) bs
 
 -- A value's lines lack the space that each but the first begins with in an object.
 abbrev pub unfolded : List ℕ → List ℕ

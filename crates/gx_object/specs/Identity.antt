@@ -16,9 +16,11 @@ abbrev pub sign_of : ℤ → ℕ
 sign_of (pos n) = 43
 sign_of (negsuc n) = 45
 
--- An offset is written as a sign, its hours and its minutes, each in two digits. (Git, date-formats, "Git internal format")
+-- An offset is written as a sign, its hours and its minutes, each in two digits. (Git, date-formats,
+-- "Git internal format")
 unfoldable pub offset_bytes : ℤ → List ℕ
-offset_bytes offset = sign_of offset ∷ two_digits (unsigned_abs offset / 3600) ++ two_digits (unsigned_abs offset / 60 % 60)
+offset_bytes offset =
+    sign_of offset ∷ two_digits (unsigned_abs offset / 3600) ++ two_digits (unsigned_abs offset / 60 % 60)
 
 -- A moment is its seconds since the epoch, a space and its offset. (Git, date-formats, "Git internal format")
 abbrev pub time_bytes : Time → List ℕ
@@ -28,14 +30,17 @@ time_bytes time = signed_decimal time.seconds ++ 32 ∷ offset_bytes time.offset
 unfoldable pub identity_bytes : Signature → List ℕ
 identity_bytes who = who.name ++ codes " <" ++ who.email ++ codes "> " ++ time_bytes who.time
 
--- `<`, `>` and newlines part the fields of an identity, so neither a name nor an email has them. (Git, git-commit, "Commit Information")
+-- `<`, `>` and newlines part the fields of an identity, so neither a name nor an email has them. (Git, git-commit,
+-- "Commit Information")
 abbrev pub is_writable_text : List ℕ → Bool
 is_writable_text text = list_all (λ b. not (b == 60) && not (b == 62) && not (b == 10)) text
 
--- an offset that two digits of hours can write: less than 100 hours either way (Git, date-formats, "Git internal format")
+-- an offset that two digits of hours can write: less than 100 hours either way (Git, date-formats,
+-- "Git internal format")
 abbrev pub is_writable_offset : ℤ → Bool
 is_writable_offset offset = nat_lt (unsigned_abs offset) 360000
 
+-- whether each field of the identity can be written
 abbrev pub is_writable_identity : Signature → Bool
 is_writable_identity who = is_writable_text who.name && is_writable_text who.email && is_writable_offset who.time.offset
 

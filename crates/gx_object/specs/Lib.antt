@@ -8,11 +8,13 @@ pub mod Field
 pub mod Identity
 pub mod IdentitySpelling
 pub mod Kind
+pub mod Laws
 pub mod Message
 pub mod Mode
 pub mod OwnedCommit
 pub mod OwnedTag
 pub mod ParentIds
+pub mod PartsRead
 pub mod Split
 pub mod Tag
 pub mod TagFronts

@@ -3,7 +3,7 @@ use Rattle.std.specs.Prelude.{ℕ, List, codes, Bool, ◌==◌, if◌then◌else
 use Rattle.gx_object.specs.declared.tree.EntryKind.{EntryKind}
 use Rattle.gx_object.specs.declared.tree.EntryKind.TheVariants.{Tree, Blob, BlobExecutable, Link, Commit}
 
--- In octal: 40000, 100644, 100755, 120000 and 160000. (Git, gitrepository-layout and git-fast-import, "filemodify")
+-- In octal: 40000, 100644, 100755, 120000 and 160000. (Git, git-fast-import, "filemodify")
 abbrev pub mode_of : EntryKind → ℕ
 mode_of Tree = 16384
 mode_of Blob = 33188
@@ -19,7 +19,8 @@ type_bits mode = bit_and mode 0xf000
 abbrev pub is_tree_mode : ℕ → Bool
 is_tree_mode mode = type_bits mode == 0x4000
 
--- Type 100000 is a file, which is executable where its owner may execute it (bit 100), and 120000 a link. (inode(7), S_IFREG, S_IXUSR, S_IFLNK)
+-- Type 100000 is a file, which is executable where its owner may execute it (bit 100), and 120000 a link. (inode(7),
+-- S_IFREG, S_IXUSR, S_IFLNK)
 -- An entry of any other type is taken for a commit. (gix_object::tree::EntryMode::kind)
 abbrev pub kind_of_mode : ℕ → EntryKind
 kind_of_mode mode =

@@ -10,7 +10,8 @@ use Rattle.gx_object.specs.declared.commit.OwnedHeader.{OwnedHeader}
 use Rattle.gx_object.specs.IdentitySpelling.{IdentityText}
 use Rattle.gx_object.specs.TimeSpelling.{SpellsTime}
 use Rattle.gx_object.specs.OwnedTag.{OwnsIdentity}
-use Rattle.gx_object.specs.CommitSpelling.{CommitText, HeaderText, IsHexId, unfolded}
+use Rattle.gx_hash.specs.IdDigits.{IsHexId}
+use Rattle.gx_object.specs.CommitSpelling.{CommitText, HeaderText, unfolded}
 
 -- the texts of the ids are digits of ids of this kind
 pub record HasIdsOf (hash : HashKind) (c : CommitText) : Type 0 where
@@ -26,9 +27,11 @@ pub record IsOfHash (hash : HashKind) (c : Commit) : Type 0 where
   pub tree : IsOfKind hash c.tree
   pub parents : AllByRecursion (IsOfKind hash) c.parents
 
+-- the identity's time spells none
 abbrev pub HasNoTime : IdentityText → Type 0
 HasNoTime text = (time : Time) → ¬ SpellsTime text.time time
 
+-- the header with its value as it is meant
 abbrev pub owned_header : HeaderText → OwnedHeader
 owned_header h = record { name = h.name; value = unfolded h.raw }
 

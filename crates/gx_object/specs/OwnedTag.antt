@@ -5,7 +5,7 @@ use Rattle.gx_hash.specs.ObjectId.{hex_of}
 use Rattle.gx_object.specs.declared.signature.Signature.{Signature}
 use Rattle.gx_object.specs.declared.signature.Time.{Time}
 use Rattle.gx_object.specs.declared.tag.Tag.{Tag}
-use Rattle.gx_object.specs.CommitSpelling.{IsHexId}
+use Rattle.gx_hash.specs.IdDigits.{IsHexId}
 use Rattle.gx_object.specs.IdentitySpelling.{IdentityText}
 use Rattle.gx_object.specs.TagSpelling.{TagText}
 use Rattle.gx_object.specs.TimeSpelling.{SpellsTime}
@@ -14,11 +14,13 @@ use Rattle.gx_object.specs.TimeSpelling.{SpellsTime}
 abbrev pub IsIdText : List ℕ → Type 0
 IsIdText text = (hash : HashKind) × IsHexId hash text
 
+-- the identity has the texts' name, email and time
 pub record OwnsIdentity (text : IdentityText) (owned : Signature) : Type 0 where
   pub name : owned.name ≡ text.name
   pub email : owned.email ≡ text.email
   pub time : SpellsTime text.time owned.time
 
+-- the same of a tagger, where there is one
 abbrev pub OwnsTagger : Option IdentityText → Option Signature → Type 0
 OwnsTagger None None = Unit {0}
 OwnsTagger (Some text) (Some owned) = OwnsIdentity text owned

@@ -9,7 +9,7 @@ use Rattle.gx_object.specs.declared.commit.parent_ids.ParentIds.{ParentIds}
 use Rattle.gx_object.specs.CommitLines.{IsNoIdLine, HasParents}
 use Rattle.gx_object.specs.CommitItems.{HasIdLine}
 
--- The lines in front are a tree and these parents, and no further parent stands behind them; without a tree there are none.
+-- The lines in front are a tree and these parents, and no further parent follows them; without a tree there are none.
 abbrev pub HasParentsInFront : HashKind → List ℕ → List (List ℕ) → Type 0
 HasParentsInFront hash bytes parents =
     ((tree more rest : List ℕ) × HasIdLine hash (codes "tree ") bytes tree more × HasParents hash more parents rest)
@@ -20,6 +20,7 @@ pub record ParentsPlace : Type 0 where
   pub hash : HashKind
   pub rest : List ℕ
 
+-- where the iterator stands
 abbrev pub place_of : ParentIds → ParentsPlace
 place_of it = record { hash = it.hash; rest = it.rest.now }
 
@@ -31,13 +32,17 @@ pub record HasParentsLeft (hash : HashKind) (place : ParentsPlace) (parents : Li
 
 -- the next id, where one is left, and then the end
 abbrev pub IsNextParent : HashKind → List (List ℕ) → Option ObjectId → ParentsPlace → Type 0
-IsNextParent hash (parent ∷ parents) (Some id) new = (hex_of id ≡ parent) × IsOfKind hash id × HasParentsLeft hash new parents
+IsNextParent hash (parent ∷ parents) (Some id) new =
+    (hex_of id ≡ parent) × IsOfKind hash id × HasParentsLeft hash new parents
 IsNextParent hash [] None new = HasParentsLeft hash new []
 IsNextParent hash parents item new = ⊥
 
+-- a call gives the next parent, where parents are left
 abbrev pub GivesParent : ParentsPlace → Option ObjectId → ParentsPlace → Type 0
-GivesParent old item new = (hash : HashKind) (parents : List (List ℕ)) → HasParentsLeft hash old parents → IsNextParent hash parents item new
+GivesParent old item new =
+    (hash : HashKind) (parents : List (List ℕ)) → HasParentsLeft hash old parents → IsNextParent hash parents item new
 
+-- the same of an iterator
 abbrev pub GivesNextParent : ParentIds → Option ObjectId → ParentIds → Type 0
 GivesNextParent old item new = GivesParent (place_of old) item (place_of new)
 

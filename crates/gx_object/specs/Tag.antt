@@ -28,18 +28,23 @@ abbrev pub signature_bytes : Option (List ℕ) → List ℕ
 signature_bytes None = []
 signature_bytes (Some text) = text
 
--- the header lines of a tag: its target, the kind of that, its name, and its tagger where it has one (Git, git-mktag, "Tag Format")
+-- the header lines of a tag: its target, the kind of that, its name, and its tagger where it has one (Git, git-mktag,
+-- "Tag Format")
 unfoldable pub tag_head_bytes : Tag → List ℕ
-tag_head_bytes t = id_line (codes "object ") t.target ++ (type_line t.target_kind ++ (name_line t.name ++ tagger_line t.tagger))
+tag_head_bytes t =
+    id_line (codes "object ") t.target ++ (type_line t.target_kind ++ (name_line t.name ++ tagger_line t.tagger))
 
--- A tag is its header lines, an empty line, its message and its signature. (Git, git-mktag, "Tag Format"; gitformat-signature, "Tag signatures")
+-- A tag is its header lines, an empty line, its message and its signature. (Git, git-mktag, "Tag Format";
+-- gitformat-signature, "Tag signatures")
 unfoldable pub tag_bytes : Tag → List ℕ
 tag_bytes t = tag_head_bytes t ++ (10 ∷ t.message ++ signature_bytes t.signature)
 
--- a tag is named in one line, which is not empty (Git, git-mktag, "Tag Format"; that git-check-ref-format allows it is not asked)
+-- a tag is named in one line, which is not empty (Git, git-mktag, "Tag Format"; that git-check-ref-format allows it
+-- is not asked)
 abbrev pub is_writable_tag_name : List ℕ → Bool
 is_writable_tag_name name = not (length name == 0) && list_all (λ b. not (b == 10)) name
 
+-- whether a field of the tagger can be written
 abbrev pub is_writable_tagger : Option Signature → Field → Bool
 is_writable_tagger (Some who) TaggerName = is_writable_text who.name
 is_writable_tagger (Some who) TaggerEmail = is_writable_text who.email

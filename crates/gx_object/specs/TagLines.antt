@@ -11,6 +11,7 @@ use Rattle.gx_object.specs.TagSpelling.{IsTagName, SignedAt}
 abbrev pub IsNoTypeLine : List ℕ → Type 0
 IsNoTypeLine bytes = (kind : Kind) (rest : List ℕ) → HasLine bytes (codes "type " ++ kind_name kind) rest → ⊥
 
+-- the bytes begin with the line of a kind
 abbrev pub HasTypeLine : List ℕ → Kind → List ℕ → Type 0
 HasTypeLine bytes kind rest = bytes ≡ text_line (codes "type ") (kind_name kind) ++ rest
 
@@ -18,6 +19,7 @@ HasTypeLine bytes kind rest = bytes ≡ text_line (codes "type ") (kind_name kin
 abbrev pub IsNoNameLine : List ℕ → Type 0
 IsNoNameLine bytes = (name rest : List ℕ) → IsTagName name → HasLine bytes (codes "tag " ++ name) rest → ⊥
 
+-- the bytes begin with the line of a name
 abbrev pub HasNameLine : List ℕ → List ℕ → List ℕ → Type 0
 HasNameLine bytes name rest = IsTagName name × (bytes ≡ text_line (codes "tag ") name ++ rest)
 
@@ -37,7 +39,9 @@ IsUnsignedTo text end = (front rest : List ℕ) → SignedAt text front rest →
 -- the last signature that begins in the lines that were read
 abbrev pub IsLastTo : List ℕ → ℕ → Option (List ℕ) → Type 0
 IsLastTo text end None = IsUnsignedTo text end
-IsLastTo text end (Some signature) = (message : List ℕ) × SignedAt text message signature × ((front rest : List ℕ) → SignedAt text front rest → length front < end → length front ≤ length message)
+IsLastTo text end (Some signature) =
+    (message : List ℕ) × SignedAt text message signature
+    × ((front rest : List ℕ) → SignedAt text front rest → length front < end → length front ≤ length message)
 
 -- whole lines were read
 pub record ReadsSignature (text rest : List ℕ) (last : Option (List ℕ)) : Type 0 where
@@ -49,4 +53,6 @@ pub record ReadsSignature (text rest : List ℕ) (last : Option (List ℕ)) : Ty
 -- the last signature of all
 abbrev pub HasLastSignature : List ℕ → Option (List ℕ) → Type 0
 HasLastSignature text None = (front rest : List ℕ) → ¬ SignedAt text front rest
-HasLastSignature text (Some signature) = (message : List ℕ) × SignedAt text message signature × ((front rest : List ℕ) → SignedAt text front rest → length front ≤ length message)
+HasLastSignature text (Some signature) =
+    (message : List ℕ) × SignedAt text message signature
+    × ((front rest : List ℕ) → SignedAt text front rest → length front ≤ length message)

@@ -9,13 +9,18 @@ use Rattle.gx_object.specs.TagFronts.{Next, Target, TargetKind, Name, Tagger, Bo
 use Rattle.gx_object.specs.TagSpelling.{TagText, SpellsBody, SpellsTag}
 use Rattle.gx_object.specs.TagItems.{Item, TargetIs, TargetKindIs, NameIs, TaggerIs, BodyIs}
 
+-- the body is the part that comes next, and ends the tag
 abbrev pub IsBodyItem : List ℕ → Item → Next → Type 0
-IsBodyItem rest i t = (t ≡ End) × ((message : List ℕ) × (signature : Option (List ℕ)) × (i ≡ BodyIs message signature) × SpellsBody rest message signature)
+IsBodyItem rest i t =
+    (t ≡ End) × ((message : List ℕ) × (signature : Option (List ℕ)) × (i ≡ BodyIs message signature)
+    × SpellsBody rest message signature)
 
--- the item that comes next, what stands behind it, and what comes next there
+-- the item that comes next, what follows it, and what comes next there
 abbrev pub ItemAt : HashKind → Next → List ℕ → Item → List ℕ → Next → Type 0
-ItemAt hash Target rest i more t = (t ≡ TargetKind) × ((target : List ℕ) × (i ≡ TargetIs target) × HasTarget hash rest target more)
-ItemAt hash TargetKind rest i more t = (t ≡ Name) × ((kind : Kind) × (i ≡ TargetKindIs kind) × HasTypeLine rest kind more)
+ItemAt hash Target rest i more t =
+    (t ≡ TargetKind) × ((target : List ℕ) × (i ≡ TargetIs target) × HasTarget hash rest target more)
+ItemAt hash TargetKind rest i more t =
+    (t ≡ Name) × ((kind : Kind) × (i ≡ TargetKindIs kind) × HasTypeLine rest kind more)
 ItemAt hash Name rest i more t = (t ≡ Tagger) × ((name : List ℕ) × (i ≡ NameIs name) × HasNameLine rest name more)
 ItemAt hash Tagger rest i more t =
     ((t ≡ Body) × ((who : IdentityText) × (i ≡ TaggerIs who) × HasIdentityLine (codes "tagger ") rest who more))
@@ -34,5 +39,6 @@ NoItemAt hash End rest = Unit {0}
 
 -- the lines up to a tagger stand in front, or the bytes spell a tag without one
 abbrev pub FindsTagger : HashKind → List ℕ → Option IdentityText → Type 0
-FindsTagger hash bytes (Some who) = (target : List ℕ) × (kind : Kind) × (name rest : List ℕ) × HasTagger hash bytes target kind name who rest
+FindsTagger hash bytes (Some who) =
+    (target : List ℕ) × (kind : Kind) × (name rest : List ℕ) × HasTagger hash bytes target kind name who rest
 FindsTagger hash bytes None = (t : TagText) × SpellsTag hash bytes t × (t.tagger ≡ None)

@@ -13,22 +13,27 @@ SpellsNumber base digits number = IsNumeral base digits × (digits_value base di
 abbrev pub SpellsPlain : List ℕ → ℤ → Type 0
 SpellsPlain text value = (number : ℕ) × SpellsNumber 10 text number × (value ≡ pos number)
 
--- and for one behind a `-`
+-- and for one after a `-`
 abbrev pub SpellsNegated : List ℕ → ℤ → Type 0
-SpellsNegated text value = (digits : List ℕ) × (number : ℕ) × (text ≡ 45 ∷ digits) × SpellsNumber 10 digits number × (value ≡ neg_ℤ (pos number))
+SpellsNegated text value =
+    (digits : List ℕ) × (number : ℕ) × (text ≡ 45 ∷ digits) × SpellsNumber 10 digits number
+    × (value ≡ neg_ℤ (pos number))
 
--- Seconds are decimal digits, behind a `-` where they lie before the epoch, that make an i64. (Git, date-formats, "Git internal format"; that leading zeros and `-0` are read is ours)
+-- Seconds are decimal digits, after a `-` where they lie before the epoch, that make an i64. (Git, date-formats, "Git
+-- internal format"; that leading zeros and `-0` are read is ours)
 abbrev pub SpellsSeconds : List ℕ → ℤ → Type 0
 SpellsSeconds text seconds = FitsSigned w64 seconds × (SpellsPlain text seconds ⊎ SpellsNegated text seconds)
 
+-- two decimal digits of the number
 abbrev pub SpellsTwoDigits : List ℕ → ℕ → Type 0
 SpellsTwoDigits text number = (length text ≡ 2) × SpellsNumber 10 text number
 
--- so many seconds ahead of UTC behind a `+`, and behind UTC behind a `-`
+-- seconds ahead of UTC after a `+`, and behind UTC after a `-`
 abbrev pub IsSignedBy : ℕ → ℕ → ℤ → Type 0
 IsSignedBy sign seconds offset = ((sign ≡ 43) × (offset ≡ pos seconds)) ⊎ ((sign ≡ 45) × (offset ≡ neg_ℤ (pos seconds)))
 
--- An offset is a sign, two digits of hours and two of minutes. (Git, date-formats, "Git internal format"; that neither is bounded, so that `+9999` is 99 hours and 99 minutes, is ours)
+-- An offset is a sign, two digits of hours and two of minutes. (Git, date-formats, "Git internal format"; that
+-- neither is bounded, so that `+9999` is 99 hours and 99 minutes, is ours)
 pub record SpellsOffset (text : List ℕ) (offset : ℤ) : Type 0 where
   pub sign : ℕ
   pub hours_text : List ℕ
@@ -54,4 +59,6 @@ seconds_text text = before_first (λ b. b == 32) text
 
 -- the seconds that a time begins with, whatever follows their space, or 0 where it begins with none
 abbrev pub BeginsWithSeconds : List ℕ → ℤ → Type 0
-BeginsWithSeconds text seconds = SpellsSeconds (seconds_text text) seconds ⊎ ((seconds ≡ pos 0) × ((other : ℤ) → ¬ SpellsSeconds (seconds_text text) other))
+BeginsWithSeconds text seconds =
+    SpellsSeconds (seconds_text text) seconds
+    ⊎ ((seconds ≡ pos 0) × ((other : ℤ) → ¬ SpellsSeconds (seconds_text text) other))

@@ -12,15 +12,17 @@ use Rattle.gx_object.specs.Mode.{is_tree_mode}
 abbrev pub octal_of : ℕ → List ℕ
 octal_of mode = digits 8 false mode
 
--- An entry is its mode in octal, a space, its name, a zero byte and its id's bytes. (Git, "Git Internals - Git Objects", "Tree Objects")
+-- An entry is its mode in octal, a space, its name, a zero byte and its id's bytes. (Git, "Git Internals - Git
+-- Objects", "Tree Objects")
 unfoldable pub entry_bytes : Entry → List ℕ
 entry_bytes e = octal_of e.mode.value ++ 32 ∷ e.filename ++ 0 ∷ bytes_of e.oid
 
--- A tree is its entries, one behind another.
+-- A tree is its entries, one after another.
 abbrev pub tree_bytes : List Entry → List ℕ
 tree_bytes entries = flat_map entry_bytes entries
 
--- Git sorts the entries of a tree by these keys: a directory's name counts as if a slash followed it. (Git, base_name_compare in read-cache.c)
+-- Git sorts the entries of a tree by these keys: a directory's name counts as if a slash followed it. (Git,
+-- base_name_compare in read-cache.c)
 abbrev pub sort_key : Entry → List ℕ
 sort_key e = if is_tree_mode e.mode.value then e.filename ++ 47 ∷ [] else e.filename
 

@@ -16,6 +16,7 @@ pub record TreePlace : Type 0 where
   pub bytes : List ℕ
   pub at : ℕ
 
+-- where the iterator stands
 abbrev pub place_of : TreeRefIter → TreePlace
 place_of it = record { hash = it.hash; bytes = it.bytes.now; at = it.at }
 
@@ -29,15 +30,20 @@ pub record HasLeft (place : TreePlace) (entries : List Entry) (end : ℕ) : Type
 abbrev pub IsOver : TreePlace → Type 0
 IsOver place = HasLeft place [] (length place.bytes)
 
--- the next entry, whose id is of the kind that was asked for, where one is left, and the same bytes are gone on with; then the error, where the bytes go on; and then the end
+-- the next entry, whose id is of the kind that was asked for, where one is left, and the same bytes are gone on with;
+-- then the error, where the bytes go on; and then the end
 abbrev pub IsNext : HashKind → List ℕ → List Entry → ℕ → Option (Result EntryRef DecodeError) → TreePlace → Type 0
-IsNext hash bytes (entry ∷ entries) end (Some (Ok item)) new = (entry_of item ≡ entry) × IsOfKind hash item.oid × (new.hash ≡ hash) × (new.bytes ≡ bytes) × HasLeft new entries end
+IsNext hash bytes (entry ∷ entries) end (Some (Ok item)) new =
+    (entry_of item ≡ entry) × IsOfKind hash item.oid × (new.hash ≡ hash) × (new.bytes ≡ bytes) × HasLeft new entries end
 IsNext hash bytes [] end (Some (Err error)) new = (end < length bytes) × (error ≡ Decode end) × IsOver new
 IsNext hash bytes [] end None new = (end ≡ length bytes) × IsOver new
 IsNext hash bytes entries end item new = ⊥
 
+-- a call gives the next entry, where the place is reached
 abbrev pub GivesNext : TreeRefIter → Option (Result EntryRef DecodeError) → TreeRefIter → Type 0
-GivesNext old item new = (entries : List Entry) (end : ℕ) → HasLeft (place_of old) entries end → IsNext (place_of old).hash (place_of old).bytes entries end item (place_of new)
+GivesNext old item new =
+    (entries : List Entry) (end : ℕ) → HasLeft (place_of old) entries end
+    → IsNext (place_of old).hash (place_of old).bytes entries end item (place_of new)
 
 -- no more items come than bytes are left
 abbrev pub bytes_left : TreeRefIter → Count

@@ -13,13 +13,15 @@ use Rattle.gx_object.specs.Tree.{is_writable_filename}
 abbrev pub entry_of : EntryRef → Entry
 entry_of e = record { mode = e.mode; filename = bstr_bytes e.filename; oid = e.oid }
 
--- A mode is one to six octal digits, up to 177777. (Git, "Git Internals - Git Objects", "Tree Objects"; that leading zeros and modes that Git never writes are read is ours)
+-- A mode is one to six octal digits, up to 177777. (Git, "Git Internals - Git Objects", "Tree Objects"; that leading
+-- zeros and modes that Git never writes are read is ours)
 pub record SpellsMode (digits : List ℕ) (mode : ℕ) : Type 0 where
   pub number : SpellsNumber 8 digits mode
   pub short : length digits ≤ 6
   pub small : mode < 2 ^ 16
 
--- An entry is its mode, a space, its name, a zero byte and its id's bytes. (Git, "Git Internals - Git Objects", "Tree Objects")
+-- An entry is its mode, a space, its name, a zero byte and its id's bytes. (Git, "Git Internals - Git Objects",
+-- "Tree Objects")
 pub record SpellsEntry (hash : HashKind) (bytes : List ℕ) (entry : Entry) : Type 0 where
   pub digits : List ℕ
   pub id : List ℕ
@@ -28,15 +30,17 @@ pub record SpellsEntry (hash : HashKind) (bytes : List ℕ) (entry : Entry) : Ty
   pub filename : IsTrue (is_writable_filename entry.filename)
   pub oid : id_from_bytes hash id ≡ Some entry.oid
 
--- A tree is spellings of its entries, one behind another, in any order.
+-- A tree is spellings of its entries, one after another, in any order.
 abbrev pub SpellsTree : HashKind → List ℕ → List Entry → Type 0
-SpellsTree hash bytes entries = (parts : List (List ℕ)) × (bytes ≡ concat parts) × AllZip (SpellsEntry hash) parts entries
+SpellsTree hash bytes entries =
+    (parts : List (List ℕ)) × (bytes ≡ concat parts) × AllZip (SpellsEntry hash) parts entries
 
 -- the longest front of the bytes that is made of whole entries, these, ends here
 pub record ReadsUpTo (hash : HashKind) (bytes : List ℕ) (entries : List Entry) (end : ℕ) : Type 0 where
   pub within : end ≤ length bytes
   pub front : SpellsTree hash (take end bytes) entries
-  pub longest : (longer : ℕ) (others : List Entry) → end < longer → longer ≤ length bytes → ¬ SpellsTree hash (take longer bytes) others
+  pub longest : (longer : ℕ) (others : List Entry) → end < longer → longer ≤ length bytes
+      → ¬ SpellsTree hash (take longer bytes) others
 
 -- Bytes that are no tree are refused at the end of that front, where the first thing begins that is no entry.
 pub record IsBadPlace (hash : HashKind) (bytes : List ℕ) (at : ℕ) : Type 0 where

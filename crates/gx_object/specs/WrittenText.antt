@@ -15,13 +15,15 @@ use Rattle.gx_object.specs.Identity.{time_bytes, is_writable_identity}
 use Rattle.gx_object.specs.Commit.{is_writable_commit}
 use Rattle.gx_object.specs.Tag.{is_writable_tag}
 use Rattle.gx_object.specs.IdentitySpelling.{IdentityText}
-use Rattle.gx_object.specs.CommitSpelling.{CommitText, HeaderText, IsHexId, IsEncodingHeader, IsWholeLines, folded}
+use Rattle.gx_hash.specs.IdDigits.{IsHexId}
+use Rattle.gx_object.specs.CommitSpelling.{CommitText, HeaderText, IsEncodingHeader, IsWholeLines, folded}
 use Rattle.gx_object.specs.TagSpelling.{TagText, OpensSignature, SignedAt}
 
 -- an identity, with its time as it is written
 abbrev pub written_identity : Signature → IdentityText
 written_identity who = record { name = who.name; email = who.email; time = time_bytes who.time }
 
+-- a header, with its value folded
 abbrev pub written_header : OwnedHeader → HeaderText
 written_header h = record { name = h.name; raw = folded h.value }
 
@@ -75,14 +77,18 @@ pub record CanWriteCommit (hash : HashKind) (c : Commit) : Type 0 where
   pub committer_seconds : HasSeconds c.committer.time
   pub encoding : HidesNoEncoding c.encoding c.extra_headers
 
+-- the time of the tagger has a property, where there is a tagger
 abbrev pub TaggerHas : (Time → Type 0) → Option Signature → Type 0
 TaggerHas Is None = Unit {0}
 TaggerHas Is (Some who) = Is who.time
 
--- The message of a tag without a signature has no line that begins one. A signature begins with such a line, behind whole lines, and has no further one.
+-- The message of a tag without a signature has no line that begins one. A signature begins with such a line, after
+-- whole lines, and has no further one.
 abbrev pub PartsSignature : List ℕ → Option (List ℕ) → Type 0
 PartsSignature message None = (front rest : List ℕ) → ¬ SignedAt message front rest
-PartsSignature message (Some signature) = IsWholeLines message × OpensSignature signature × ((front rest : List ℕ) → SignedAt signature front rest → front ≡ [])
+PartsSignature message (Some signature) =
+    IsWholeLines message × OpensSignature signature
+    × ((front rest : List ℕ) → SignedAt signature front rest → front ≡ [])
 
 -- a tag that can be written, with an id of this kind
 pub record CanWriteTag (hash : HashKind) (t : Tag) : Type 0 where

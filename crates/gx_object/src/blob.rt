@@ -1,3 +1,4 @@
+//! Blobs.
 ghost use Rattle.std.specs.Prelude.{true};
 ghost use Rattle.gx_object.specs.declared.kind.Kind.TheVariants as object_kind;
 
@@ -24,26 +25,5 @@ impl WriteTo for Blob {
 
     fn to_bytes(&self, _alloc: Global) -> Result<Bytes, EncodeError> {
         Ok(self.bytes.try_clone()?)
-    }
-}
-
-#[cfg(test)]
-mod tests {
-    use super::*;
-    use crate::samples::is_object;
-    use gx_hash::HashKind;
-
-    fn spelled_blob(alloc: Global, text: &[u8]) -> Result<Bytes, EncodeError> {
-        let blob = Blob {
-            bytes: Bytes::from_slice(alloc, text)?,
-        };
-        blob.to_bytes(alloc)
-    }
-
-    #[test]
-    fn blob_is_spelled(rt: HostRuntime) {
-        let blob = spelled_blob(rt.alloc(), b"a\n");
-        let digits = b"78981922613b2afb6025042ff6bd878ac1994e85";
-        assert!(rt; is_object(HashKind::Sha1, b"blob", &blob, 2, digits));
     }
 }

@@ -1,3 +1,4 @@
+//! Commits: values, and what is read from bytes.
 mod decode;
 mod fields;
 mod iter;
@@ -5,8 +6,6 @@ mod lines;
 mod owned;
 mod parent_ids;
 mod signed_data;
-#[cfg(test)]
-mod tests;
 mod write;
 
 use crate::{Headers, Ids, Signature};
@@ -20,7 +19,7 @@ pub use signed_data::{SignedData, signature_of};
 pub use write::push_commit;
 pub(crate) use write::{has_no_newline, push_id_line, push_identity_line};
 
-/// A header of a commit behind the ones that each commit has.
+/// A header of a commit beyond those that each commit has.
 #[derive(Debug, Drop)]
 pub struct OwnedHeader {
     pub name: Bytes,

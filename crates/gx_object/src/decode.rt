@@ -1,3 +1,4 @@
+//! Why bytes are not read.
 ghost use Rattle.std.specs.Prelude.{◌≡◌};
 ghost use Rattle.gx_object.specs.declared.decode.DecodeError.TheVariants.{NoMemory as no_memory};
 

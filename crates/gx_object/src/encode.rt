@@ -1,3 +1,4 @@
+//! Why a value is not written.
 ghost use Rattle.gx_object.specs.declared.encode.EncodeError.TheVariants.{NoMemory as no_memory};
 ghost use Rattle.std.specs.Prelude.{◌≡◌};
 

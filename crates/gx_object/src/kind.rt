@@ -1,3 +1,4 @@
+//! The kinds of objects.
 ghost use Rattle.std.specs.Prelude.{◌≡◌, IfSome};
 ghost use Rattle.gx_object.specs.Kind.{kind_name, kind_named};
 

@@ -11,8 +11,6 @@ mod kind;
 pub mod laws;
 mod lists;
 mod message;
-#[cfg(test)]
-mod samples;
 mod signature;
 mod split;
 mod tag;

@@ -1,3 +1,4 @@
+//! Lists that values have.
 ghost use Rattle.std.specs.Prelude.{◌≡◌, [], IfOk};
 
 use crate::{Entry, EntryRef, OwnedHeader};
@@ -115,6 +116,14 @@ impl<'a> Model for EntryRefs<'a> {
 }
 
 impl<'a> EntryRefs<'a> {
+    pub fn new(alloc: Global) -> EntryRefs<'a>
+        ensures { result ≡ [] }
+    {
+        EntryRefs {
+            vec: Vec::new(alloc),
+        }
+    }
+
     pub fn from_vec(vec: Vec<EntryRef<'a>>) -> EntryRefs<'a>
         ensures { result ≡ vec.entry.items }
     {

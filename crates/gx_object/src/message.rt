@@ -1,3 +1,4 @@
+//! The parts of a message.
 ghost use Rattle.std.specs.Prelude.{◌≡◌, ◌+◌, ◌++◌, ◌∷◌, ◌<◌, ◌≤◌, length, take, drop, reverse, IfOk, IfSome, OnOk, MatchOption, option_map};
 ghost use Rattle.std.specs.List.{position, position_or_len};
 ghost use Rattle.bstr.specs.BStr.{bstr_bytes};
@@ -83,7 +84,9 @@ fn push_joined_lines(out: &mut Vec<u8>, text: &[u8]) -> Result<(), AllocError>
 // The first line and what follows its newline, where there is one.
 #[tactic(auto, using(crate::proofs::TitleLines::joined_found, crate::proofs::TitleLines::joined_missed))]
 fn split_line(text: &[u8]) -> Option<(&[u8], &[u8])>
-    ensures { MatchOption result (joined_lines text.now ≡ trim_end text.now) (λ parts. (joined_lines text.now ≡ trim_end parts.0.now ++ (32 ∷ joined_lines parts.1.now)) × (length parts.1.now < length text.now)) }
+    ensures { MatchOption result (joined_lines text.now ≡ trim_end text.now)
+        (λ parts. (joined_lines text.now ≡ trim_end parts.0.now ++ (32 ∷ joined_lines parts.1.now))
+        × (length parts.1.now < length text.now)) }
 {
     match first_newline(text) {
         Some(at) => Some((text.split_at(at).0, text.split_at(at + 1).1)),
@@ -157,52 +160,4 @@ fn is_space(byte: u8) -> bool
     ensures { result ≡ is_space byte }
 {
     byte == b' ' || (9 <= byte && byte <= 13)
-}
-
-#[cfg(test)]
-mod tests {
-    use super::*;
-
-    fn is_line(line: &Result<Bytes, NoMemory>, wanted: &[u8]) -> bool {
-        match line {
-            Ok(line) => line.as_slice() == wanted,
-            Err(_) => false,
-        }
-    }
-
-    fn is_summary(alloc: Global, message: &[u8], wanted: &[u8]) -> bool {
-        is_line(&summary(alloc, message), wanted)
-    }
-
-    #[test]
-    fn summaries_are_one_line(rt: HostRuntime) {
-        let alloc = rt.alloc();
-        assert!(rt; is_summary(alloc, b"c2\n", b"c2"));
-        assert!(rt; is_summary(alloc, b"a\n  b", b"a   b"));
-        assert!(rt; is_summary(alloc, b"a \t\r\nb\x0b\n", b"a b"));
-        assert!(rt; is_summary(alloc, b" \t\n\x0c ", b""));
-        assert!(rt; is_summary(alloc, b"\n\nx", b""));
-    }
-
-    fn has_parts(message: &[u8], title: &[u8], body: &[u8]) -> bool {
-        let parts = MessageRef::from_bytes(message);
-        let found = match parts.body {
-            Some(text) => text.as_bytes() == body,
-            None => body.is_empty(),
-        };
-        found && parts.title.as_bytes() == title
-    }
-
-    #[test]
-    fn two_newlines_part_the_title_from_the_body(rt: HostRuntime) {
-        assert!(rt; has_parts(b"t\n\nb\n\nc", b"t", b"b\n\nc"));
-        assert!(rt; has_parts(b"t\n\n\nb", b"t", b"\nb"));
-        assert!(rt; has_parts(b"t\nu\n", b"t\nu\n", b""));
-    }
-
-    #[test]
-    fn parts_have_a_summary(rt: HostRuntime) {
-        let parts = MessageRef::from_bytes(b" t \nu\n\nb");
-        assert!(rt; is_line(&parts.summary(rt.alloc()), b"t u"));
-    }
 }

@@ -1,10 +1,9 @@
+//! Who did something, and when.
 ghost use Rattle.std.specs.Prelude.{◌≡◌, IfOk};
 ghost use Rattle.gx_object.specs.Identity.{is_writable_identity};
 
 mod date;
 mod decode;
-#[cfg(test)]
-mod tests;
 mod write;
 
 pub(crate) use decode::split_identity;

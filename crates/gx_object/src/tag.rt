@@ -1,10 +1,9 @@
+//! Tags: values, and what is read from bytes.
 mod decode;
 mod fields;
 mod items;
 mod iter;
 mod lines;
-#[cfg(test)]
-mod tests;
 mod write;
 
 use crate::{Kind, Signature};
@@ -23,6 +22,6 @@ pub struct Tag {
     pub name: Bytes,
     pub tagger: Option<Signature>,
     pub message: Bytes,
-    /// The signature from its first line on, which is written behind the message as it is.
+    /// The signature from its first line on, which is written after the message as it is.
     pub signature: Option<Bytes>,
 }

@@ -1,11 +1,10 @@
+//! Trees: their entries, and the modes of these.
 ghost use Rattle.std.specs.Prelude.{◌≡◌, ◌||◌, ◌↔◌, ◌⊎◌, IsTrue};
 ghost use Rattle.gx_object.specs.Mode.{mode_of, kind_of_mode, is_tree_mode, entry_kind_name};
 ghost use Rattle.gx_object.specs.Tree.{octal_of};
 
 mod decode;
 mod iter;
-#[cfg(test)]
-mod tests;
 mod write;
 
 use crate::Entries;
@@ -87,7 +86,8 @@ impl EntryMode {
 
     /// Whether the entry is a file, executable or not.
     pub fn is_blob(self) -> bool
-        ensures { IsTrue result ↔ ((kind_of_mode self.value ≡ EntryKind.Blob) ⊎ (kind_of_mode self.value ≡ EntryKind.BlobExecutable)) }
+        ensures { IsTrue result
+            ↔ ((kind_of_mode self.value ≡ EntryKind.Blob) ⊎ (kind_of_mode self.value ≡ EntryKind.BlobExecutable)) }
     {
         matches!(self.kind(), EntryKind::Blob | EntryKind::BlobExecutable)
     }

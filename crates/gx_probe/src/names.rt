@@ -1,5 +1,9 @@
+//! Names of references.
+
+use crate::answers::{at, order, push_field, quoted, shown, word};
+use crate::error::ProbeError;
 use gx_hash::NoMemory;
-use gx_rules::{FullName, NameError, PartialName};
+use gx_rules::{Category, FullName, NameError, PartialName, expand_namespace};
 use std::alloc::Global;
 
 /// A verdict for each line of the input.
@@ -26,5 +30,143 @@ fn verdict(alloc: Global, name: &[u8]) -> Result<&'static [u8], NoMemory> {
         Ok(_) => Ok(b"partial\n"),
         Err(NameError::NoMemory) => Err(NoMemory),
         Err(_) => Ok(b"no\n"),
+    }
+}
+
+/// The answers to rows on names of references.
+pub fn answer(
+    alloc: Global,
+    call: &[u8],
+    fields: &[Vec<u8>],
+) -> Result<Option<Vec<u8>>, ProbeError> {
+    match (call, fields) {
+        (_, [name]) => answer_name(alloc, call, name),
+        (b"compare_full_names", [first, second]) => Ok(Some(full_order(alloc, first, second)?)),
+        (b"compare_partial_names", [first, second]) => {
+            Ok(Some(partial_order(alloc, first, second)?))
+        }
+        _ => Ok(None),
+    }
+}
+
+fn answer_name(alloc: Global, call: &[u8], name: &[u8]) -> Result<Option<Vec<u8>>, ProbeError> {
+    match call {
+        b"name_message" => Ok(Some(message(alloc, name)?)),
+        b"full_name"
+        | b"full_name_copy"
+        | b"full_name_clone"
+        | b"category"
+        | b"shorten"
+        | b"to_partial" => Ok(Some(answer_full(alloc, call, name)?)),
+        b"partial_name"
+        | b"partial_name_copy"
+        | b"partial_name_clone"
+        | b"namespace"
+        | b"namespace_copy" => Ok(Some(answer_partial(alloc, call, name)?)),
+        _ => Ok(None),
+    }
+}
+
+fn answer_full(alloc: Global, call: &[u8], name: &[u8]) -> Result<Vec<u8>, ProbeError> {
+    match FullName::new(alloc, name) {
+        Ok(name) => full_name(alloc, call, &name),
+        Err(error) => refusal(alloc, error),
+    }
+}
+
+fn full_name(alloc: Global, call: &[u8], name: &FullName) -> Result<Vec<u8>, ProbeError> {
+    match call {
+        b"category" => category(alloc, name),
+        b"shorten" => quoted(alloc, name.shorten().as_bytes()),
+        b"to_partial" => quoted(alloc, name.to_partial()?.as_slice()),
+        b"full_name_copy" => quoted(alloc, name.try_clone()?.as_slice()),
+        b"full_name_clone" => quoted(alloc, name.clone()?.as_slice()),
+        _ => quoted(alloc, name.as_slice()),
+    }
+}
+
+/// The category of a name, and the name without its directory.
+fn category(alloc: Global, name: &FullName) -> Result<Vec<u8>, ProbeError> {
+    let Some((category, short)) = name.category_and_short_name() else {
+        return word(alloc, "none");
+    };
+    let mut answer = word(alloc, category_word(category))?;
+    push_field(&mut answer, short.as_bytes())?;
+    Ok(answer)
+}
+
+fn category_word(category: Category) -> &'static str {
+    match category {
+        Category::Tag => "tag",
+        Category::LocalBranch => "local-branch",
+        Category::RemoteBranch => "remote-branch",
+        Category::Note => "note",
+        Category::PseudoRef => "pseudo-ref",
+    }
+}
+
+fn answer_partial(alloc: Global, call: &[u8], name: &[u8]) -> Result<Vec<u8>, ProbeError> {
+    match PartialName::new(alloc, name) {
+        Ok(name) => partial_name(alloc, call, &name),
+        Err(error) => refusal(alloc, error),
+    }
+}
+
+fn partial_name(alloc: Global, call: &[u8], name: &PartialName) -> Result<Vec<u8>, ProbeError> {
+    match call {
+        b"namespace" => quoted(alloc, expand_namespace(alloc, name)?.as_slice()),
+        b"namespace_copy" => quoted(
+            alloc,
+            expand_namespace(alloc, name)?
+                .try_clone()?
+                .as_bstr()
+                .as_bytes(),
+        ),
+        b"partial_name_copy" => quoted(alloc, name.try_clone()?.as_slice()),
+        b"partial_name_clone" => quoted(alloc, name.clone()?.as_slice()),
+        _ => quoted(alloc, name.as_slice()),
+    }
+}
+
+fn full_order(alloc: Global, first: &[u8], second: &[u8]) -> Result<Vec<u8>, ProbeError> {
+    match (FullName::new(alloc, first), FullName::new(alloc, second)) {
+        (Ok(first), Ok(second)) => order(alloc, first.cmp(&second)),
+        _ => word(alloc, "no names"),
+    }
+}
+
+fn partial_order(alloc: Global, first: &[u8], second: &[u8]) -> Result<Vec<u8>, ProbeError> {
+    match (
+        PartialName::new(alloc, first),
+        PartialName::new(alloc, second),
+    ) {
+        (Ok(first), Ok(second)) => order(alloc, first.cmp(&second)),
+        _ => word(alloc, "no names"),
+    }
+}
+
+/// The words on why the name is no full one.
+fn message(alloc: Global, name: &[u8]) -> Result<Vec<u8>, ProbeError> {
+    match FullName::new(alloc, name) {
+        Ok(_) => word(alloc, "ok"),
+        Err(error) => shown(alloc, &error),
+    }
+}
+
+fn refusal(alloc: Global, error: NameError) -> Result<Vec<u8>, ProbeError> {
+    match error {
+        NameError::Empty => word(alloc, "empty"),
+        NameError::InvalidByte { at: place } => at(alloc, "invalid-byte", place),
+        NameError::RepeatedDot { at: place } => at(alloc, "repeated-dot", place),
+        NameError::ReflogPortion { at: place } => at(alloc, "reflog-portion", place),
+        NameError::StartsWithSlash => word(alloc, "starts-with-slash"),
+        NameError::EndsWithSlash => word(alloc, "ends-with-slash"),
+        NameError::RepeatedSlash { at: place } => at(alloc, "repeated-slash", place),
+        NameError::StartsWithDot { at: place } => at(alloc, "starts-with-dot", place),
+        NameError::LockFileSuffix { at: place } => at(alloc, "lock-file-suffix", place),
+        NameError::EndsWithDot => word(alloc, "ends-with-dot"),
+        NameError::SingleAt => word(alloc, "single-at"),
+        NameError::SomeLowercase => word(alloc, "some-lowercase"),
+        NameError::NoMemory => Err(ProbeError::NoMemory),
     }
 }

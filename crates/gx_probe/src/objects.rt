@@ -1,62 +1,12 @@
-use gx_hash::{HashKind, NoMemory};
+//! Objects as they are read, and as they are written again.
+
+use crate::answers::{numbered, push_field, push_id, push_word, quoted, word};
+use crate::error::ProbeError;
+use gx_hash::{Bytes, HashKind, ObjectId, object_id};
 use gx_object::{
-    CommitRef, DecodeError, EncodeError, SignatureError, TagRef, TreeRef, TreeRefIter, WriteTo,
+    CommitRef, EncodeError, Field, Kind, SignatureRef, TagRef, TreeRef, TreeRefIter, WriteTo,
 };
-use std::alloc::{AllocError, Global};
-use thiserror::Error;
-
-/// Why the input is not written again.
-#[derive(Clone, Copy, Debug, PartialEq, Eq, Error)]
-pub enum ProbeError {
-    #[error("no such object from byte {at} on")]
-    Decode { at: usize },
-    #[error("a line is no mode, id and path of a leaf")]
-    BadLine,
-    /// What was read can't be written: a time, say.
-    #[error("the object can't be written again")]
-    Unwritable,
-    #[error("out of memory")]
-    NoMemory,
-}
-
-impl From<DecodeError> for ProbeError {
-    fn from(error: DecodeError) -> ProbeError {
-        match error {
-            DecodeError::Decode { at } => ProbeError::Decode { at },
-            DecodeError::NoMemory => ProbeError::NoMemory,
-        }
-    }
-}
-
-impl From<SignatureError> for ProbeError {
-    fn from(error: SignatureError) -> ProbeError {
-        match error {
-            SignatureError::BadTime => ProbeError::Unwritable,
-            SignatureError::NoMemory => ProbeError::NoMemory,
-        }
-    }
-}
-
-impl From<EncodeError> for ProbeError {
-    fn from(error: EncodeError) -> ProbeError {
-        match error {
-            EncodeError::Unwritable { .. } => ProbeError::Unwritable,
-            EncodeError::NoMemory => ProbeError::NoMemory,
-        }
-    }
-}
-
-impl From<NoMemory> for ProbeError {
-    fn from(_: NoMemory) -> ProbeError {
-        ProbeError::NoMemory
-    }
-}
-
-impl From<AllocError> for ProbeError {
-    fn from(_: AllocError) -> ProbeError {
-        ProbeError::NoMemory
-    }
-}
+use std::alloc::Global;
 
 /// The tree that the bytes spell, as it is written.
 pub fn rewrite_tree(alloc: Global, bytes: &[u8], hash: HashKind) -> Result<Vec<u8>, ProbeError> {
@@ -84,4 +34,148 @@ pub fn count_entries(alloc: Global, bytes: &[u8], hash: HashKind) -> Result<Vec<
         count = count.saturating_add(1);
     }
     Ok(format!(in alloc; "{count}\n")?.into_bytes())
+}
+
+/// The bytes of an object, or the first field that can't be written.
+pub fn spelled(alloc: Global, written: Result<Bytes, EncodeError>) -> Result<Vec<u8>, ProbeError> {
+    match written {
+        Ok(bytes) => quoted(alloc, bytes.as_slice()),
+        Err(error) => unwritable(alloc, error),
+    }
+}
+
+/// The number of bytes of an object and its id, or the first field that can't be written.
+pub fn size_and_id(
+    alloc: Global,
+    hash: HashKind,
+    kind: Kind,
+    written: Result<Bytes, EncodeError>,
+) -> Result<Vec<u8>, ProbeError> {
+    match written {
+        Ok(bytes) => {
+            let mut answer = numbered(alloc, "bytes", bytes.len())?;
+            push_id(
+                &mut answer,
+                &object_id(hash, kind.as_bytes(), bytes.as_slice()),
+            )?;
+            Ok(answer)
+        }
+        Err(error) => unwritable(alloc, error),
+    }
+}
+
+fn unwritable(alloc: Global, error: EncodeError) -> Result<Vec<u8>, ProbeError> {
+    match error {
+        EncodeError::Unwritable { field } => {
+            let mut answer = word(alloc, "unwritable")?;
+            push_word(&mut answer, field_word(field))?;
+            Ok(answer)
+        }
+        EncodeError::NoMemory => Err(ProbeError::NoMemory),
+    }
+}
+
+pub fn field_word(field: Field) -> &'static str {
+    match field {
+        Field::FileName => "file-name",
+        Field::AuthorName => "author-name",
+        Field::AuthorEmail => "author-email",
+        Field::AuthorOffset => "author-offset",
+        Field::CommitterName => "committer-name",
+        Field::CommitterEmail => "committer-email",
+        Field::CommitterOffset => "committer-offset",
+        Field::TaggerName => "tagger-name",
+        Field::TaggerEmail => "tagger-email",
+        Field::TaggerOffset => "tagger-offset",
+        Field::TagName => "tag-name",
+        Field::Encoding => "encoding",
+        Field::HeaderName => "header-name",
+    }
+}
+
+/// The texts of an identity: its name, its email and its time.
+pub fn texts(alloc: Global, who: &SignatureRef<'_>) -> Result<Vec<u8>, ProbeError> {
+    let mut answer = Vec::new(alloc);
+    push_identity_ref(&mut answer, who)?;
+    Ok(answer)
+}
+
+pub fn push_identity_ref(answer: &mut Vec<u8>, who: &SignatureRef<'_>) -> Result<(), ProbeError> {
+    push_field(answer, who.name.as_bytes())?;
+    push_field(answer, who.email.as_bytes())?;
+    push_field(answer, who.time.as_bytes())
+}
+
+pub fn push_part(answer: &mut Vec<u8>, text: &str, bytes: &[u8]) -> Result<(), ProbeError> {
+    push_word(answer, text)?;
+    push_field(answer, bytes)
+}
+
+pub fn push_who(
+    answer: &mut Vec<u8>,
+    text: &str,
+    who: &SignatureRef<'_>,
+) -> Result<(), ProbeError> {
+    push_word(answer, text)?;
+    push_identity_ref(answer, who)
+}
+
+pub fn push_named_id(answer: &mut Vec<u8>, text: &str, id: &ObjectId) -> Result<(), ProbeError> {
+    push_word(answer, text)?;
+    push_id(answer, id)
+}
+
+/// How the first bytes of an object are read, for each number of them in turn. Numbers with the same outcome are
+/// counted together: `0*46` is 46 of them that go wrong at byte 0, `ok` is one that is an object.
+#[derive(Drop)]
+pub struct Cuts {
+    alloc: Global,
+    answer: Vec<u8>,
+    place: Option<usize>,
+    count: u64,
+}
+
+impl Cuts {
+    pub fn new(alloc: Global) -> Cuts {
+        Cuts {
+            alloc,
+            answer: Vec::new(alloc),
+            place: None,
+            count: 0,
+        }
+    }
+
+    /// Takes the outcome of the next cut.
+    pub fn add(&mut self, outcome: Result<(), ProbeError>) -> Result<(), ProbeError> {
+        let place = match outcome {
+            Ok(()) => None,
+            Err(ProbeError::Decode { at }) => Some(at),
+            Err(error) => return Err(error),
+        };
+        if self.count > 0 && place == self.place {
+            self.count = self.count.saturating_add(1);
+            return Ok(());
+        }
+        self.flush()?;
+        self.place = place;
+        self.count = 1;
+        Ok(())
+    }
+
+    fn flush(&mut self) -> Result<(), ProbeError> {
+        let count = self.count;
+        let text = match self.place {
+            _ if count == 0 => return Ok(()),
+            None if count == 1 => format!(in self.alloc; "ok")?,
+            None => format!(in self.alloc; "ok*{count}")?,
+            Some(place) => format!(in self.alloc; "{place}*{count}")?,
+        };
+        push_word(&mut self.answer, text.as_str())
+    }
+
+    pub fn into_answer(self) -> Result<Vec<u8>, ProbeError> {
+        let mut cuts = self;
+        cuts.flush()?;
+        Ok(cuts.answer)
+    }
 }

@@ -1,4 +1,4 @@
-use crate::objects::ProbeError;
+use crate::error::ProbeError;
 use gx_edit::{EditError, PathMap, read_map, write_plain};
 use gx_hash::{HashKind, NoMemory, ObjectId};
 use gx_object::EntryKind;

@@ -7,8 +7,6 @@ mod log;
 mod moving;
 mod names_of_chain;
 mod resolving;
-#[cfg(test)]
-mod samples;
 
 pub use error::RefError;
 pub use log::{WriteReflog, is_due, log_line};

@@ -95,6 +95,3 @@ pub fn log_line(
         message: one_line(alloc, message)?,
     })
 }
-
-#[cfg(test)]
-mod tests;

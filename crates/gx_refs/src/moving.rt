@@ -105,6 +105,3 @@ fn change_at<S: References>(
         log,
     })
 }
-
-#[cfg(test)]
-mod tests;

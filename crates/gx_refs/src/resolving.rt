@@ -22,6 +22,11 @@ pub struct Chain {
 }
 
 /// Follows symbolic references from a name to the first that is absent or names an object.
+///
+/// ```
+/// let head = FullName::new(alloc, b"HEAD")?;
+/// let chain = resolve(alloc, &store, &head)?;
+/// ```
 pub fn resolve<S: References>(alloc: Global, store: &S, name: &FullName) -> Result<Chain, RefError>
     ensures ends { IfOk result (λ chain. IfSome (S.state store.now).references (λ refs.
         (end : List ℕ) × EndsIn refs.targets name.now chain.names end chain.target)) }
@@ -50,6 +55,3 @@ pub fn resolve<S: References>(alloc: Global, store: &S, name: &FullName) -> Resu
         current = next;
     }
 }
-
-#[cfg(test)]
-mod tests;

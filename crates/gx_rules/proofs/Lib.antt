@@ -4,11 +4,10 @@ pub mod IgnorableLemmas
 pub mod NameLaws
 pub mod NamespaceLemmas
 pub mod PathLaws
-pub mod PathLemmas
 pub mod PatternLaws
 pub mod PatternLetters
 pub mod PatternMatching
 pub mod PatternPieces
 pub mod PatternSets
-pub mod RefFormatLemmas
+pub mod RuleLemmas
 pub mod SpellingLemmas

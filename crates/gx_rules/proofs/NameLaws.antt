@@ -1,10 +1,11 @@
--- Partial names, and that at most one error tells the first rule that a name breaks.
+-- Partial names, and that at most one error names the first rule that a name breaks.
 use Rattle.std.proofs.Common.{◌≡◌, ◌≢◌, ◌<◌, ℕ, List, ap, arith, refl, inl, inr}
 use Rattle.std.proofs.lemmas.Bool.{cases_order}
 use Rattle.gx_rules.specs.declared.name_error.NameError.{NameError}
 use Rattle.gx_rules.specs.declared.name_error.NameError.TheVariants.{Empty, InvalidByte, RepeatedDot, ReflogPortion, StartsWithSlash, EndsWithSlash, RepeatedSlash, StartsWithDot, LockFileSuffix, EndsWithDot, SingleAt, SomeLowercase, NoMemory}
 use Rattle.gx_rules.specs.Name.{Breaks, rank, IsFirstPlace, IsFirstBroken, IsPartialName}
-use Rattle.gx_rules.specs.NameRules.{Keeps, BreaksFirst}
+use Rattle.gx_rules.specs.Rules.{Keeps, BreaksFirst}
+use Rattle.gx_rules.proofs.RuleLemmas.{one_first}
 
 -- a property has one first place
 same_place : (P : ℕ → Type 0) (a b : ℕ) → IsFirstPlace P a → IsFirstPlace P b → a ≡ b
@@ -35,17 +36,10 @@ same_of_rank name NoMemory b e p q = absurd p
 same_of_rank name a b e p q = absurd (omega arith)
 
 pub one_first_broken : (name : List ℕ) (a b : NameError) → IsFirstBroken name a → IsFirstBroken name b → a ≡ b
-one_first_broken name a b first second =
-    elim (cases_order (rank a) (rank b)) [
-      | inl same ↦ same_of_rank name a b same first.broken second.broken
-      | inr apart ↦ elim apart [
-        | inl below ↦ absurd (second.earlier a below first.broken)
-        | inr above ↦ absurd (first.earlier b above second.broken)
-      ]
-    ]
+one_first_broken name a b first second = one_first (Breaks name) rank (same_of_rank name) a b first second
 
 -- a name that keeps the rules up to the last is a partial one
-pub is_partial_name : (name : List ℕ) → Keeps 0 11 name → IsPartialName name
+pub is_partial_name : (name : List ℕ) → Keeps (Breaks name) rank 0 11 → IsPartialName name
 is_partial_name name keeps Empty apart = keeps Empty (omega arith) (omega arith)
 is_partial_name name keeps (InvalidByte at) apart = keeps (InvalidByte at) (omega arith) (omega arith)
 is_partial_name name keeps (RepeatedDot at) apart = keeps (RepeatedDot at) (omega arith) (omega arith)
@@ -61,7 +55,7 @@ is_partial_name name keeps SomeLowercase apart = absurd (apart refl)
 is_partial_name name keeps NoMemory apart = λ broken. broken
 
 -- the first of these rules that a name breaks is the first of all, and not the last
-pub is_first_of_partial : (name : List ℕ) (error : NameError) → BreaksFirst 0 11 name error → IsFirstBroken name error × (error ≢ SomeLowercase)
+pub is_first_of_partial : (name : List ℕ) (error : NameError) → BreaksFirst (Breaks name) rank 0 11 error → IsFirstBroken name error × (error ≢ SomeLowercase)
 is_first_of_partial name error first = (
   record { broken = first.broken; earlier = λ other below. first.earlier other (omega arith) below },
   λ same. let below : rank error < 11 = first.to in let last : rank error ≡ 11 = ap rank same in absurd (omega arith),

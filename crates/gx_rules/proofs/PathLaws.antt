@@ -5,7 +5,7 @@ use Rattle.std.specs.List.{join_with_byte, slice_split, onto_first}
 use Rattle.std.proofs.lemmas.List.Elements.{All-head, All-tail, All-cons}
 use Rattle.std.proofs.lemmas.List.Splits.{join_with_byte-slice_split, slice_split_at, slice_split_none}
 use Rattle.gx_rules.specs.Path.{Path, components, at_front, IsParted}
-use Rattle.gx_rules.proofs.PathLemmas.{is_slash, components_some}
+use Rattle.gx_rules.specs.Laws.Paths.{is_slash, components_some}
 
 -- the recursion is that of `split`
 at_front_is : (b : ℕ) (path : Path) → at_front b path ≡ onto_first b path

@@ -5,7 +5,7 @@ use Rattle.gx_rules.specs.Pattern.{Letter, Piece, Plain, AnyByte, AnyBytes, OneO
 use Rattle.gx_rules.specs.PatternReading.{in_front, closed}
 use Rattle.gx_rules.proofs.PatternPieces.{none_some, lefts, rights, closed-of}
 
--- the piece that letters begin with, and those behind it
+-- the piece that letters begin with, and those after it
 abbrev set_at : (List Letter → Piece) → Option (List Letter × List Letter) → Option (Piece × List Letter)
 set_at make None = None
 set_at make (Some parts) = Some (make parts.0, parts.1)

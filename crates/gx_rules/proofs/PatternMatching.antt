@@ -150,7 +150,7 @@ cond_some : {A : Type 0} (b : Bool) (x y : A) → cond b (Some x) None ≡ Some 
 cond_some true x y h = ap (λ o. unwrap_or o y) h
 cond_some false x y h = absurd (none_some y h)
 
--- the letters behind a piece are the same for each byte
+-- the letters after a piece are the same for each byte
 taken_out : (all rest : List Letter) (byte : ℕ) (name : List ℕ) → taken all byte ≡ Some rest → AreMatch all name → (other : ℕ) × (more : List ℕ) × (name ≡ other ∷ more) × AreMatch rest more
 unfolding taken
 taken_out [] rest byte name h m = absurd (none_some rest h)
@@ -197,7 +197,7 @@ later_back : (behind : List Letter) (byte : ℕ) (rest : List ℕ) → AreMatch 
 later_back behind byte rest (inl match) = record { place = 0; within = omega arith; match = match }
 later_back behind byte rest (inr later) = record { place = later.place + 1; within = (let w = later.within in omega arith); match = rw (add-one (later.place + 1)) later.match }
 
--- where the letters do not match, no match is left but behind the last star
+-- where the letters do not match, no match is left but after the last star
 pub retry_onward : (all behind : List Letter) (name from : List ℕ) (byte : ℕ) (rest : List ℕ) → from ≡ byte ∷ rest → ¬ AreMatch all name → Lives all name behind from → Lives behind rest behind rest
 retry_onward all behind name from byte rest e never (inl match) = absurd (never match)
 retry_onward all behind name from byte rest e never (inr later) = later_out behind byte rest (rw e at later)

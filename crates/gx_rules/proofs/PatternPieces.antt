@@ -28,7 +28,7 @@ closed-of (first ∷ more) rest h =
     let parts = or_parts (is_bare 93 first) (list_any (is_bare 93) more) h in
     rw (closed-member first (more ++ Bare 93 ∷ rest) parts.0, closed-of more rest parts.1) refl
 
--- what is closed is letters without a bracket, and a bracket behind them
+-- what is closed is letters without a bracket, and a bracket after them
 record IsClosed (all members rest : List Letter) : Type 0 where
   free : list_any (is_bare 93) members ≡ false
   same : all ≡ members ++ Bare 93 ∷ rest

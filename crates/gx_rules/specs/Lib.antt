@@ -1,6 +1,7 @@
 pub mod Category
 pub mod Component
 pub mod ComponentRules
+pub mod Laws
 pub mod Name
 pub mod NameRules
 pub mod Namespace
@@ -8,3 +9,4 @@ pub mod Path
 pub mod Pattern
 pub mod PatternReading
 pub mod RefFormat
+pub mod Rules

@@ -4,6 +4,7 @@ use Rattle.std.specs.declared.cmp.Ordering.{Ordering}
 use Rattle.std.specs.Ordering.{nat_cmp}
 use Rattle.std.specs.Cmp.Lexicographic.{slice_cmp}
 use Rattle.std.specs.List.{starts_with, list_any, list_all}
+use Rattle.gx_rules.specs.Rules.{IsFirst}
 use Rattle.gx_rules.specs.declared.name_error.NameError.{NameError}
 use Rattle.gx_rules.specs.declared.name_error.NameError.TheVariants.{Empty, InvalidByte, RepeatedDot, ReflogPortion, StartsWithSlash, EndsWithSlash, RepeatedSlash, StartsWithDot, LockFileSuffix, EndsWithDot, SingleAt, SomeLowercase, NoMemory}
 
@@ -11,7 +12,8 @@ use Rattle.gx_rules.specs.declared.name_error.NameError.TheVariants.{Empty, Inva
 abbrev pub name_cmp : List ℕ → List ℕ → Ordering
 name_cmp = slice_cmp nat_cmp
 
--- Names cannot have control characters (below 32, or 127), space, tilde, caret, colon, question mark, asterisk, open bracket or backslash. (git-check-ref-format(1), 4, 5 and 10)
+-- Names cannot have control characters (below 32, or 127), space, tilde, caret, colon, question mark, asterisk, open
+-- bracket or backslash. (git-check-ref-format(1), 4, 5 and 10)
 abbrev pub is_forbidden : ℕ → Bool
 is_forbidden byte = nat_lt byte 32 || byte == 127 || list_any (λ c. c == byte) (codes " ~^:?*[\\")
 
@@ -23,10 +25,11 @@ ForbiddenAt name at = IsSomeAnd (slice_get name at) (λ byte. IsTrue (is_forbidd
 abbrev pub StandsAt : List ℕ → List ℕ → ℕ → Type 0
 StandsAt text name at = IsTrue (starts_with nat_eq (drop at name) text)
 
--- Slashes part a name into components: one begins at the front and behind each slash, and one ends before each slash and at the end.
+-- Slashes part a name into components: one begins at the front and after each slash.
 abbrev pub BeginsComponent : List ℕ → ℕ → Type 0
 BeginsComponent name at = (at ≡ 0) ⊎ StandsAt (codes "/") name (at - 1)
 
+-- a component ends before each slash and at the end
 abbrev pub EndsComponent : List ℕ → ℕ → Type 0
 EndsComponent name at = (at ≡ length name) ⊎ StandsAt (codes "/") name at
 
@@ -47,11 +50,13 @@ pub record IsFirstPlace (P : ℕ → Type 0) (at : ℕ) : Type 0 where
   pub here : P at
   pub before : (k : ℕ) → k < at → ¬ P k
 
--- A name on one level, as `HEAD` or `ORIG_HEAD`, has capital letters and underscores only. (gix; Git so tells `HEAD` and its like from other files)
+-- A name on one level, as `HEAD` or `ORIG_HEAD`, has capital letters and underscores only. (gix; Git so tells `HEAD`
+-- and its like from other files)
 abbrev pub is_capital : ℕ → Bool
 is_capital byte = nat_le 65 byte && nat_le byte 90 || byte == 95
 
--- The name breaks the rule that the error tells, and the error's place is the first where it does. (git-check-ref-format(1), 1, 3 and 6 to 9)
+-- The name breaks the rule that the error names, and the error's place is the first where it does.
+-- (git-check-ref-format(1), 1, 3 and 6 to 9)
 abbrev pub Breaks : List ℕ → NameError → Type 0
 Breaks name Empty = name ≡ []
 Breaks name (InvalidByte at) = IsFirstPlace (ForbiddenAt name) at
@@ -91,7 +96,6 @@ IsFullName name = (error : NameError) → ¬ Breaks name error
 abbrev pub IsPartialName : List ℕ → Type 0
 IsPartialName name = (error : NameError) → error ≢ SomeLowercase → ¬ Breaks name error
 
--- the error tells the first rule that the name breaks
-pub record IsFirstBroken (name : List ℕ) (error : NameError) : Type 0 where
-  pub broken : Breaks name error
-  pub earlier : (other : NameError) → rank other < rank error → ¬ Breaks name other
+-- the error names the first rule that the name breaks
+abbrev pub IsFirstBroken : List ℕ → NameError → Type 0
+IsFirstBroken name = IsFirst (Breaks name) rank

@@ -12,7 +12,8 @@ abbrev pub at_front : ℕ → Path → Path
 at_front b [] = (b ∷ []) ∷ []
 at_front b (name ∷ path) = (b ∷ name) ∷ path
 
--- A path is written with a slash between its names; so a text is parted at each slash. (git-fast-import(1), "filemodify")
+-- A path is written with a slash between its names; so a text is parted at each slash.
+-- (git-fast-import(1), "filemodify")
 abbrev pub components : List ℕ → Path
 components [] = [] ∷ []
 components (b ∷ bytes) = if b == 47 then [] ∷ components bytes else at_front b (components bytes)

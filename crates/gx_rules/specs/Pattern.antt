@@ -1,12 +1,16 @@
--- Glob patterns, and the names that they match. The rules are those of glob(7), "Wildcard matching", with these differences: a slash and a leading dot are bytes as any other, `^` negates a set as `!` does, a backslash takes the next byte as it is in a set too, and no set has classes as `[:alpha:]`.
+-- Glob patterns, and the names that they match. The rules are those of glob(7), "Wildcard matching", with these
+-- differences: a slash and a leading dot are bytes as any other, `^` negates a set as `!` does, a backslash takes the
+-- next byte as it is in a set too, and no set has classes as `[:alpha:]`.
 use Rattle.std.specs.Prelude.{◌≡◌, ℕ, Bool, true, false, ◌||◌, ◌&&◌, ◌==◌, nat_le, List, [], ◌∷◌, ◌++◌, length, codes}
 use Rattle.std.specs.List.{list_any}
 
--- A byte of a pattern stands bare, or behind a backslash that takes its meaning from it. (glob(7): "One can remove the special meaning of '?', '*', and '[' by preceding them by a backslash")
+-- A byte of a pattern stands bare, or after a backslash that takes its meaning from it. (glob(7): "One can remove the
+-- special meaning of '?', '*', and '[' by preceding them by a backslash")
 pub data Letter : Type 0 where
   Bare : ℕ → Letter
   Escaped : ℕ → Letter
 
+-- the byte of a letter
 abbrev pub byte_of : Letter → ℕ
 byte_of (Bare byte) = byte
 byte_of (Escaped byte) = byte
@@ -26,7 +30,10 @@ letters (byte ∷ next ∷ text) =
       | false ↦ Bare byte ∷ letters (next ∷ text)
     ]
 
--- The letters of a set hold bytes. They are read from the left: a letter, a bare `-` and a further letter hold the bytes from the one to the other, which are none where the first is the greater, and any other letter holds its own byte. (glob(7): "two characters separated by '-' denote a range"; "One may include '-' in its literal meaning by making it the first or last character")
+-- The letters of a set hold bytes. They are read from the left: a letter, a bare `-` and a further letter hold the
+-- bytes from the one to the other, which are none where the first is the greater, and any other letter holds its own
+-- byte. (glob(7): "two characters separated by '-' denote a range"; "One may include '-' in its literal meaning by
+-- making it the first or last character")
 unfoldable pub holds : List Letter → ℕ → Bool
 holds [] byte = false
 holds (one ∷ []) byte = byte_of one == byte
@@ -53,11 +60,13 @@ is_special letter = list_any (λ byte. is_bare byte letter) (codes "*?[\\")
 abbrev pub is_negation : Letter → Bool
 is_negation letter = is_bare 33 letter || is_bare 94 letter
 
--- A set has a member, and a bare `]` is one only where it comes first. (glob(7): "The string enclosed by the brackets cannot be empty; therefore ']' can be allowed between the brackets, provided that it is the first character")
+-- A set has a member, and a bare `]` is one only where it comes first. (glob(7): "The string enclosed by the brackets
+-- cannot be empty; therefore ']' can be allowed between the brackets, provided that it is the first character")
 abbrev pub AreMembers : List Letter → Type 0
 AreMembers [] = ⊥
 AreMembers (first ∷ more) = list_any (is_bare 93) more ≡ false
 
+-- the set is negated
 abbrev pub begins_negated : List Letter → Bool
 begins_negated [] = false
 begins_negated (first ∷ more) = is_negation first
@@ -67,10 +76,14 @@ unfoldable pub Begins : Piece → List Letter → List Letter → Type 0
 Begins (Plain letter) all rest = (is_special letter ≡ false) × (all ≡ letter ∷ rest)
 Begins AnyByte all rest = all ≡ Bare 63 ∷ rest
 Begins AnyBytes all rest = all ≡ Bare 42 ∷ rest
-Begins (OneOf members) all rest = AreMembers members × (begins_negated members ≡ false) × (all ≡ Bare 91 ∷ (members ++ Bare 93 ∷ rest))
-Begins (NoneOf members) all rest = (sign : Letter) × AreMembers members × (is_negation sign ≡ true) × (all ≡ Bare 91 ∷ sign ∷ (members ++ Bare 93 ∷ rest))
+Begins (OneOf members) all rest =
+    AreMembers members × (begins_negated members ≡ false) × (all ≡ Bare 91 ∷ (members ++ Bare 93 ∷ rest))
+Begins (NoneOf members) all rest =
+    (sign : Letter) × AreMembers members × (is_negation sign ≡ true)
+    × (all ≡ Bare 91 ∷ sign ∷ (members ++ Bare 93 ∷ rest))
 
--- The letters are the pieces in a row. A set that is not closed is no piece, nor is a last backslash: a pattern with one spells no pieces, and matches no name.
+-- The letters are the pieces in a row. A set that is not closed is no piece, nor is a last backslash: a pattern with
+-- one spells no pieces, and matches no name.
 unfoldable pub Spells : List Piece → List Letter → Type 0
 Spells [] all = all ≡ []
 Spells (piece ∷ pieces) all = (rest : List Letter) × Begins piece all rest × Spells pieces rest

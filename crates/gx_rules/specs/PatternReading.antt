@@ -17,7 +17,7 @@ abbrev pub in_front : Letter → Option (List Letter × List Letter) → Option 
 in_front letter None = None
 in_front letter (Some parts) = Some (letter ∷ parts.0, parts.1)
 
--- the letters before the first bare `]`, and those behind it
+-- the letters before the first bare `]`, and those after it
 unfoldable pub closed : List Letter → Option (List Letter × List Letter)
 closed [] = None
 closed (letter ∷ all) =
@@ -26,12 +26,12 @@ closed (letter ∷ all) =
       | false ↦ in_front letter (closed all)
     ]
 
--- whether the letters before the bracket hold the byte, and those behind it
+-- whether the letters before the bracket hold the byte, and those after it
 abbrev pub parts_hold : ℕ → Option (List Letter × List Letter) → Option (Bool × List Letter)
 parts_hold byte None = None
 parts_hold byte (Some parts) = Some (holds parts.0 byte, parts.1)
 
--- whether the set whose members come first holds the byte, and the letters behind it
+-- whether the set whose members come first holds the byte, and the letters after it
 unfoldable pub set_holds : List Letter → ℕ → Option (Bool × List Letter)
 set_holds [] byte = None
 set_holds (first ∷ all) byte = parts_hold byte (in_front first (closed all))
@@ -45,14 +45,14 @@ or_held held (Some found) = Some (held || found.0, found.1)
 abbrev pub spans : ℕ → ℕ → ℕ → Bool
 spans first last byte = nat_le first byte && nat_le byte last
 
--- the letter that a dash at the front makes the last of a range, and the letters behind it
+-- the letter that a dash at the front makes the last of a range, and the letters after it
 unfoldable pub range_end : List Letter → Option (Letter × List Letter)
 range_end [] = None
 range_end (dash ∷ []) = None
 range_end (dash ∷ other ∷ all) =
     if is_bare 45 dash && not (is_bare 93 other) then Some (other, all) else None
 
--- whether a member holds the byte that begins with a letter, and the letters behind the member
+-- whether a member holds the byte that begins with a letter, and the letters after the member
 unfoldable pub member_holds : Letter → List Letter → ℕ → Bool × List Letter
 member_holds first all byte =
     elim (range_end all) [
@@ -60,21 +60,23 @@ member_holds first all byte =
       | Some last ↦ (spans (byte_of first) (byte_of last.0) byte, last.1)
     ]
 
+-- what a negated set answers
 abbrev pub negated : Option (Bool × List Letter) → Option (Bool × List Letter)
 negated None = None
 negated (Some found) = Some (not found.0, found.1)
 
--- whether a set, which may be negated, takes the byte, and the letters behind it
+-- whether a set, which may be negated, takes the byte, and the letters after it
 unfoldable pub set_takes : List Letter → ℕ → Option (Bool × List Letter)
 set_takes [] byte = None
 set_takes (sign ∷ all) byte =
     if is_negation sign then negated (set_holds all byte) else set_holds (sign ∷ all) byte
 
+-- the letters after the set, if it takes the byte
 abbrev pub kept : Option (Bool × List Letter) → Option (List Letter)
 kept None = None
 kept (Some found) = if found.0 then Some found.1 else None
 
--- the letters behind the first piece, if it is one that takes the byte alone
+-- the letters after the first piece, if it is one that takes the byte alone
 unfoldable pub taken : List Letter → ℕ → Option (List Letter)
 taken [] byte = None
 taken (letter ∷ all) byte =
@@ -83,7 +85,7 @@ taken (letter ∷ all) byte =
     (if is_bare 42 letter || is_bare 92 letter then None else
     (if byte_of letter == byte then Some all else None)))
 
--- the letters match what is left behind some byte of the name
+-- the letters match what is left after some byte of the name
 pub record IsLater (all : List Letter) (name : List ℕ) : Type 0 where
   pub place : ℕ
   pub within : place < length name
@@ -93,13 +95,16 @@ pub record IsLater (all : List Letter) (name : List ℕ) : Type 0 where
 abbrev pub Lives : List Letter → List ℕ → List Letter → List ℕ → Type 0
 Lives all name behind from = AreMatch all name ⊎ IsLater behind from
 
--- Where a star that takes more finds a match, the letters behind what the walk has read find one as much further on.
+-- Where a star that takes more finds a match, the letters after what the walk has read find one as much further on.
 abbrev pub Keeps : List Letter → List ℕ → List Letter → List ℕ → Type 0
-Keeps all name behind from = (k : ℕ) → k < length from → AreMatch behind (drop (k + 1) from) → AreMatch all (drop (k + 1) name)
+Keeps all name behind from =
+    (k : ℕ) → k < length from → AreMatch behind (drop (k + 1) from) → AreMatch all (drop (k + 1) name)
 
+-- the walk may still find a match
 abbrev pub IsAlive : Walk → Type 0
 IsAlive walk = Lives (letters walk.pattern.now) walk.name.now (letters walk.behind_star.now) walk.from_star.now
 
+-- the star of the walk finds what the walk itself could find
 abbrev pub IsSound : Walk → Type 0
 IsSound walk = Keeps (letters walk.pattern.now) walk.name.now (letters walk.behind_star.now) walk.from_star.now
 
@@ -118,13 +123,18 @@ StepGives old (step.Done answer) = IsTrue answer ↔ IsAlive old
 abbrev pub IsWithin : ℕ → Walk → Type 0
 IsWithin limit walk = (length walk.pattern.now ≤ limit) × (length walk.behind_star.now ≤ limit)
 
--- the steps that are left at most: at each byte of the name and at its end, one for each byte of the pattern and one for the pattern's end
+-- the steps that are left at most: at each byte of the name and at its end, one for each byte of the pattern and one
+-- for the pattern's end
 abbrev pub steps_left : ℕ → Walk → ℕ
-steps_left limit walk = max (length walk.name.now) (length walk.from_star.now) * (limit + 1) + length walk.pattern.now + 1
+steps_left limit walk =
+    max (length walk.name.now) (length walk.from_star.now) * (limit + 1) + length walk.pattern.now + 1
 
--- a turn that takes the count of steps from the one number to the other takes no more than were left, and leaves the others
+-- a turn that takes the count of steps from the one number to the other takes no more than were left, and
+-- leaves the others
 abbrev pub Spends : Walk → (before after : ℕ) → Step → Type 0
-Spends old before after (step.Next new) = (limit : ℕ) → IsWithin limit old → IsWithin limit new × (after + steps_left limit new ≤ before + steps_left limit old)
+Spends old before after (step.Next new) =
+    (limit : ℕ) → IsWithin limit old → IsWithin limit new
+    × (after + steps_left limit new ≤ before + steps_left limit old)
 Spends old before after (step.Done answer) = after ≤ before + length old.pattern.now + 1
 
 -- the last star takes its next byte from no later a place than the walk's

@@ -3,9 +3,11 @@ use Rattle.std.specs.Prelude.{◌≡◌, ◌≢◌, ℕ, List, [], ◌++◌, cod
 use Rattle.gx_rules.specs.Name.{StandsAt, ForbiddenAt, Nowhere}
 use Rattle.gx_rules.specs.Path.{components}
 
+-- the name begins with the text
 abbrev pub Begins : List ℕ → List ℕ → Type 0
 Begins text name = (rest : List ℕ) × (name ≡ text ++ rest)
 
+-- the name ends with the text
 abbrev pub Ends : List ℕ → List ℕ → Type 0
 Ends text name = (front : List ℕ) × (name ≡ front ++ text)
 

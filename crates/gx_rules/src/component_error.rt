@@ -1,3 +1,4 @@
+//! Why a text is no name of an entry.
 ghost use Rattle.std.specs.Prelude.{◌≡◌};
 
 use thiserror::Error;

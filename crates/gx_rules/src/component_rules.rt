@@ -44,7 +44,8 @@ impl Default for Protect {
 
 /// Whether an entry of a tree may have that name. The error tells the first rule that the name breaks.
 pub fn component(name: &[u8], is_link: bool, protect: Protect) -> Result<(), ComponentError>
-    ensures { MatchResult result (λ _. IsComponent name.now is_link protect) (IsFirstViolated name.now is_link protect) }
+    ensures { MatchResult result
+        (λ _. IsComponent name.now is_link protect) (IsFirstViolated name.now is_link protect) }
 {
     check_rules(name, is_link, protect)
 }
@@ -140,6 +141,3 @@ fn is_device(name: &[u8]) -> bool
 {
     DEVICES.iter().any(|device| spells(Seen::new(name, false), device.as_bytes(), b" ", b"."))
 }
-
-#[cfg(test)]
-mod tests;

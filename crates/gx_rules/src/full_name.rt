@@ -1,3 +1,4 @@
+//! Full names of references.
 ghost use Rattle.std.specs.Prelude.{◌≡◌, ◌⊎◌, IfOk, MatchOption, MatchResult};
 ghost use Rattle.bstr.specs.BStr.{bstr_bytes};
 ghost use Rattle.gx_rules.specs.Category.{category_of, short_name};
@@ -10,6 +11,7 @@ use bstr::BStr;
 use gx_hash::{Bytes, NoMemory};
 use std::alloc::{AllocError, Global};
 use std::cmp::Ordering;
+use std::fmt;
 use std::marker::Model;
 
 /// The full name of a reference, as `refs/heads/main` or `HEAD`. Names are ordered by their bytes.
@@ -98,6 +100,17 @@ impl FullName {
     }
 }
 
+impl fmt::Display for FullName {
+    ghost use Rattle.std.specs.Prelude.{Some, encode_utf8_all};
+    ghost use Rattle.bstr.specs.Utf8.{lossy_chars};
+
+    ghost output = { λ name. Some (encode_utf8_all (lossy_chars name)) };
+
+    fn fmt<W: fmt::Write>(&self, f: &mut fmt::Formatter<W>) -> fmt::Result {
+        fmt::Display::fmt(&self.as_bstr(), f)
+    }
+}
+
 impl Clone for FullName {
     ghost is_clone = { λ name copy. copy ≡ name };
 
@@ -162,6 +175,3 @@ impl PartialOrd for FullName {
         Some(self.cmp(other))
     }
 }
-
-#[cfg(test)]
-mod tests;

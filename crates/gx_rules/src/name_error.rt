@@ -1,3 +1,4 @@
+//! Why a text is no name of a reference.
 ghost use Rattle.std.specs.Prelude.{◌≡◌};
 
 use gx_hash::NoMemory;

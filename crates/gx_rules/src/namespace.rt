@@ -68,22 +68,3 @@ fn push_level(prefix: &mut Vec<u8>, component: &[u8]) -> Result<(), AllocError>
     prefix.push(b'/')?;
     Ok(())
 }
-
-#[cfg(test)]
-mod tests {
-    use super::*;
-    use std::test::Fail;
-
-    /// The example of gitnamespaces(7).
-    #[test]
-    fn expands_each_component(rt: HostRuntime) -> Result<(), Fail> {
-        let name = PartialName::new(rt.alloc(), b"foo/bar")?;
-        let namespace = expand_namespace(rt.alloc(), &name)?;
-        assert_eq!(rt;
-            namespace.as_slice(),
-            b"refs/namespaces/foo/refs/namespaces/bar/".as_slice()
-        );
-        assert_eq!(rt; namespace.try_clone()?.as_bstr(), namespace.as_bstr());
-        Ok(())
-    }
-}

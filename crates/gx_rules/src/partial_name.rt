@@ -1,3 +1,4 @@
+//! Partial names of references.
 ghost use Rattle.std.specs.Prelude.{◌≡◌, ◌≢◌, ◌⊎◌, IfOk, MatchResult};
 ghost use Rattle.bstr.specs.BStr.{bstr_bytes};
 ghost use Rattle.gx_rules.specs.Name.{IsPartialName, IsFirstBroken};
@@ -8,6 +9,7 @@ use bstr::BStr;
 use gx_hash::{Bytes, NoMemory};
 use std::alloc::{AllocError, Global};
 use std::cmp::Ordering;
+use std::fmt;
 use std::marker::Model;
 
 /// What people write for the name of a reference, as `main` for `refs/heads/main`: a full name without the
@@ -31,7 +33,8 @@ impl PartialName {
     pub fn new(alloc: Global, name: &[u8]) -> Result<PartialName, NameError>
         ensures { MatchResult result
             (λ partial. (partial ≡ name.now) × IsPartialName name.now)
-            (λ error. ((error ≡ NameError.NoMemory) × IsPartialName name.now) ⊎ (IsFirstBroken name.now error × (error ≢ NameError.SomeLowercase))) }
+            (λ error. ((error ≡ NameError.NoMemory) × IsPartialName name.now)
+            ⊎ (IsFirstBroken name.now error × (error ≢ NameError.SomeLowercase))) }
     {
         check_partial_name(name)?;
         Ok(PartialName {
@@ -65,6 +68,17 @@ impl PartialName {
         Ok(PartialName {
             bytes: self.bytes.try_clone()?,
         })
+    }
+}
+
+impl fmt::Display for PartialName {
+    ghost use Rattle.std.specs.Prelude.{Some, encode_utf8_all};
+    ghost use Rattle.bstr.specs.Utf8.{lossy_chars};
+
+    ghost output = { λ name. Some (encode_utf8_all (lossy_chars name)) };
+
+    fn fmt<W: fmt::Write>(&self, f: &mut fmt::Formatter<W>) -> fmt::Result {
+        fmt::Display::fmt(&self.as_bstr(), f)
     }
 }
 
@@ -132,6 +146,3 @@ impl PartialOrd for PartialName {
         Some(self.cmp(other))
     }
 }
-
-#[cfg(test)]
-mod tests;

@@ -50,10 +50,11 @@ pub fn components(path: &[u8]) -> PathComponents<'_>
 }
 
 /// Where the first component ends.
-#[tactic(auto, using(crate::proofs::PathLemmas::components_found))]
+#[tactic(auto, using(crate::specs::Laws::Paths::components_found))]
 fn first_slash(path: &[u8]) -> Option<usize>
     ensures { MatchOption result (components path.now ≡ path.now ∷ [])
-        (λ at. (at < length path.now) × (components path.now ≡ take at path.now ∷ components (drop (at + 1) path.now))) }
+        (λ at. (at < length path.now)
+        × (components path.now ≡ take at path.now ∷ components (drop (at + 1) path.now))) }
 {
     slash_at(path)
 }
@@ -62,24 +63,4 @@ fn slash_at(path: &[u8]) -> Option<usize>
     ensures { result ≡ position (λ b. b == 47) path.now }
 {
     path.iter().position(|byte| *byte == b'/')
-}
-
-#[cfg(test)]
-mod tests {
-    use super::*;
-
-    #[test]
-    fn parts_a_path_at_its_slashes(rt: HostRuntime) {
-        let mut parts = components(b"a/bc//");
-        assert_eq!(rt; parts.next(), Some(b"a".as_slice()));
-        assert_eq!(rt; parts.next(), Some(b"bc".as_slice()));
-        assert_eq!(rt; parts.next(), Some(b"".as_slice()));
-        assert_eq!(rt; parts.next(), Some(b"".as_slice()));
-        assert_eq!(rt; parts.next(), None);
-    }
-
-    #[test]
-    fn an_empty_path_has_one_component(rt: HostRuntime) {
-        assert_eq!(rt; components(b"").count(), 1);
-    }
 }

@@ -133,6 +133,3 @@ fn matches_uncounted<L: Ledger>(pattern: &Pattern, name: &[u8], blank: Blank) ->
 {
     pattern.matches_counted(name, &mut Steps::<L>::new(blank))
 }
-
-#[cfg(test)]
-mod tests;

@@ -6,7 +6,7 @@ use Rattle.std.proofs.lemmas.List.{append_cancel_left}
 use Rattle.gx_hash.specs.ObjectId.{hex_of}
 use Rattle.gx_hash.specs.declared.kind.HashKind.{HashKind}
 use Rattle.gx_hash.specs.declared.oid.ObjectId.{ObjectId}
-use Rattle.gx_object.specs.CommitSpelling.{IsLowerHexDigit}
+use Rattle.gx_hash.specs.IdDigits.{IsLowerHexDigit}
 use Rattle.gx_object.specs.Kind.{kind_name, kind_named}
 use Rattle.gx_object.specs.declared.kind.Kind.{Kind}
 use Rattle.gx_object.specs.declared.kind.Kind.TheVariants as kinds

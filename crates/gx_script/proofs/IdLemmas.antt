@@ -11,8 +11,8 @@ use Rattle.gx_hash.specs.declared.oid.ObjectId.TheVariants.{Sha1, Sha256}
 use Rattle.gx_hash.specs.declared.oid.HexError.{HexError}
 use Rattle.gx_hash.specs.declared.kind.HashKind.{HashKind}
 use Rattle.gx_hash.specs.declared.kind.HashKind.TheVariants as hash_kind
-use Rattle.gx_hash.proofs.IdLaws.{id_from_hex-hex_of}
-use Rattle.gx_object.specs.CommitSpelling.{IsLowerHexDigit, IsHexId}
+use Rattle.gx_hash.specs.Laws.{id_from_hex-hex_of}
+use Rattle.gx_hash.specs.IdDigits.{IsHexId, IsLowerHexDigit}
 use Rattle.gx_script.specs.Fields.{IsId}
 use Rattle.gx_script.specs.Items.{Without, NoNewline}
 use Rattle.gx_script.specs.Lines.{IsNoId}

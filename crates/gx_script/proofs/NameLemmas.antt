@@ -1,7 +1,7 @@
 -- Names have no space and no newline.
 use Rattle.std.proofs.Common.{sym, refl, subst, ℕ, suc, List, [], ◌∷◌, IsTrue}
 use Rattle.gx_rules.specs.Name.{IsFullName, IsPartialName, ForbiddenAt, is_forbidden}
-use Rattle.gx_rules.proofs.RefFormatLemmas.{well_formed}
+use Rattle.gx_rules.specs.Laws.{well_formed}
 use Rattle.gx_script.specs.Items.{Without, NoNewline}
 
 allowed_without : (c : ℕ) (name : List ℕ) → IsTrue (is_forbidden c) → ((at_ : ℕ) → ForbiddenAt name at_ → ⊥) → Without c name

@@ -44,7 +44,7 @@ edit_items (Link path bytes) = Line (put_line (codes "link") (length bytes) path
 edit_items (Module path id) = Line (module_line id path) ∷ []
 edit_items (Remove path) = Line (drop_line path) ∷ []
 
--- The lines of parents, the message, the edits, and the end.
+-- The edits of a commit in their order, and the end.
 abbrev pub edits_items : List PathEdit → List Item
 edits_items edits = flat_map edit_items edits ++ Line end_line ∷ []
 

@@ -53,7 +53,7 @@ pub data State : Type 0 where
   AtNote : ℕ → State
   AtOver : State
 
--- The first line of a request.
+-- The first line of a tag.
 abbrev pub tag_text : List ℕ → ObjectId → Kind → List ℕ
 tag_text name target kind = codes "tag " ++ (name ++ 32 ∷ (hex_of target ++ 32 ∷ kind_name kind))
 

@@ -41,7 +41,7 @@ pub record IsField (bytes : List ℕ) : Type 0 where
 abbrev pub line_limit : ℕ
 line_limit = 65536
 
--- The most bytes of a block, and of all blocks of a request.
+-- The most bytes of a block.
 abbrev pub block_limit : ℕ
 block_limit = 268435456
 
@@ -53,7 +53,7 @@ blocks_limit = 1073741824
 abbrev pub edit_limit : ℕ
 edit_limit = 65536
 
--- The most parents of a commit, and the most ids in the line of a request.
+-- The most parents of a commit.
 abbrev pub parent_limit : ℕ
 parent_limit = 1024
 

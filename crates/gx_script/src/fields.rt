@@ -4,7 +4,7 @@ ghost use Rattle.gx_rules.specs.Name.{IsFullName, IsPartialName};
 ghost use Rattle.gx_script.specs.Fields.{IsId, IsIdentity, IsTarget, IsExpect, IsOrder, who_text, target_text, expect_text, order_text, set_text, walk_id_text};
 ghost use Rattle.gx_script.specs.Items.{NoNewline, block_limit};
 ghost use Rattle.gx_script.specs.Lines.{IsNoWho, IsNoSize, IsNoId, IsNoKind, IsNoTarget, IsNoExpect, IsNoOrder, IsNoSet, IsNoWalkId, signature_of};
-ghost use Rattle.gx_object.specs.CommitSpelling.{IsHexId};
+ghost use Rattle.gx_hash.specs.IdDigits.{IsHexId};
 ghost use Rattle.std.specs.Fmt.{decimal};
 ghost use Rattle.std.specs.Prelude.{◌≡◌, ◌≤◌, ◌++◌, [], IfOk, MatchOption, MatchBool};
 

@@ -14,6 +14,12 @@ use std::alloc::Global;
 use std::marker::Model;
 
 /// Reads a script, a request at a time.
+///
+/// ```
+/// let mut source = StdSource::new(b"head\nnamespace\n".as_slice());
+/// let mut reader = ScriptReader::new(alloc, HashKind::Sha1, 1 << 40)?;
+/// let request = reader.next(&mut source)?;
+/// ```
 #[derive(Drop)]
 pub struct ScriptReader {
     feed: Feed,
@@ -111,6 +117,3 @@ impl ScriptReader {
         }
     }
 }
-
-#[cfg(test)]
-mod tests;

@@ -4,17 +4,17 @@ use Rattle.std.specs.Option.{option_or}
 use Rattle.std.specs.Prelude.{option_map}
 use Rattle.std.specs.Ordering.{eq_by_cmp}
 use Rattle.std.specs.Cmp.{eq_by_cmp_equiv}
-use Rattle.std.specs.Cmp.Lexicographic.{nat_list_cmp_total, texts_ties}
+use Rattle.std.specs.Cmp.Lexicographic.{nat_list_cmp_total}
 use Rattle.std.specs.List.{AllByRecursion}
 use Rattle.std.specs.FinMap.{FinMap, get, insert, contains_key, get-insert}
 use Rattle.gx_hash.specs.ObjectId.{id_cmp}
 use Rattle.gx_hash.specs.declared.kind.HashKind.{HashKind}
 use Rattle.gx_hash.specs.declared.oid.ObjectId.{ObjectId}
-use Rattle.gx_hash.specs.declared.oid.ObjectId.TheVariants.{Sha1, Sha256}
-use Rattle.gx_hash.proofs.IdLaws.{id_cmp_total, id_cmp-IsAntisymmetric}
+use Rattle.gx_hash.specs.Laws.{id_cmp_total, id_eq-id_cmp as ids_tied, same_id, own_id}
 use Rattle.gx_object.specs.declared.kind.Kind.{Kind}
 use Rattle.gx_rules.specs.Name.{name_cmp}
-use Rattle.gx_store.specs.Content.{Content, id_eq, lookup, id_of, with_object, object_at, AreOfOwnIds}
+use Rattle.gx_hash.specs.ObjectIds.{id_eq}
+use Rattle.gx_store.specs.Content.{Content, lookup, id_of, with_object, object_at, AreOfOwnIds}
 use Rattle.gx_store.specs.State.{RefState, stored}
 use Rattle.gx_store.specs.Change.{target_after, log_after}
 use Rattle.gx_store.specs.Slots.{with_at, with_change}
@@ -26,20 +26,6 @@ use Rattle.gx_store.proofs.SlotLemmas.{tied, get_with_at, with_target-at, with_l
 all_with : {X : Type 0} {P Q R : X → Type 0} → ((x : X) → P x → Q x → R x) → (xs : List X) → AllByRecursion P xs → AllByRecursion Q xs → AllByRecursion R xs
 all_with f [] p q = tt
 all_with f (x ∷ xs) p q = (f x p.0 q.0, all_with f xs p.1 q.1)
-
--- ---- ids
-
-ids_tied : (a b : ObjectId) → id_eq a b ≡ eq_by_cmp id_cmp a b
-ids_tied (Sha1 a) (Sha1 b) = texts_ties a b
-ids_tied (Sha1 a) (Sha256 b) = refl
-ids_tied (Sha256 a) (Sha1 b) = refl
-ids_tied (Sha256 a) (Sha256 b) = texts_ties a b
-
-same_id : (a b : ObjectId) → id_eq a b ≡ true → a ≡ b
-same_id a b e = id_cmp-IsAntisymmetric a b (tied _ (sym (ids_tied a b) ∙ e))
-
-own_id : (a : ObjectId) → id_eq a a ≡ true
-own_id a = ids_tied a a ∙ (eq_by_cmp_equiv id_cmp_total).refl a
 
 -- ---- one object
 

@@ -7,7 +7,8 @@ use Rattle.std.specs.Map.{lookup}
 use Rattle.gx_rules.specs.Name.{name_cmp}
 use Rattle.gx_hash.specs.ObjectId.{id_cmp}
 use Rattle.gx_hash.specs.declared.oid.ObjectId.{ObjectId}
-use Rattle.gx_hash.proofs.IdLaws.{id_cmp_total, id_cmp-IsAntisymmetric, derived_cmp, derived_cmp-id_cmp}
+use Rattle.gx_hash.specs.Laws.{id_cmp_total, id_cmp-IsAntisymmetric, derived_cmp-id_cmp}
+use Rattle.gx_hash.specs.ObjectIds.{derived_cmp}
 use Rattle.std.specs.FinMap.{IsAntisymmetric, slice_cmp-IsAntisymmetric, nat_cmp-IsAntisymmetric, find, get, insert, from_entries, get-from_entries, get-insert, same_map}
 
 -- two ways to find the first entry of a key

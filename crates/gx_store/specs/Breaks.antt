@@ -5,7 +5,8 @@ use Rattle.std.specs.FinMap.{insert, empty}
 use Rattle.gx_hash.specs.declared.kind.HashKind.{HashKind}
 use Rattle.gx_hash.specs.declared.oid.ObjectId.{ObjectId}
 use Rattle.gx_object.specs.declared.kind.Kind.{Kind}
-use Rattle.gx_store.specs.Content.{Content, id_eq}
+use Rattle.gx_hash.specs.ObjectIds.{id_eq}
+use Rattle.gx_store.specs.Content.{Content}
 use Rattle.gx_store.specs.Faults.{Rose}
 use Rattle.gx_store.specs.State.{StoreState, RefState, Becomes}
 use Rattle.gx_store.specs.declared.target.Target.TheVariants.{Symbolic}
@@ -17,7 +18,8 @@ abbrev pub Fails : Bool → StoreState → StoreState → Type 0
 Fails true old new = Becomes old new × Rose old.faults new.faults
 Fails false old new = new ≡ old
 
--- A new repository has no object and no log, and `HEAD` is symbolic to `refs/heads/main`. (git-init, "--initial-branch")
+-- A new repository has no object and no log, and `HEAD` is symbolic to `refs/heads/main`. (Ours: Git's own default is
+-- `master`; git-init(1), "--initial-branch".)
 abbrev pub fresh_refs : RefState
 fresh_refs = record { targets = insert empty (codes "HEAD") (Symbolic (codes "refs/heads/main")); logs = empty }
 

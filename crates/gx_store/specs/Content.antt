@@ -1,5 +1,5 @@
 -- What a store of objects holds, and what writing adds to it.
-use Rattle.std.specs.Prelude.{◌≡◌, ◌≢◌, ℕ, Bool, List, [], ◌∷◌, Option, Some, None, IsSome, IfSome, if◌then◌else◌}
+use Rattle.std.specs.Prelude.{◌≡◌, ◌≢◌, ℕ, List, [], ◌∷◌, Option, Some, None, IsSome, IfSome, if◌then◌else◌}
 use Rattle.std.specs.Option.{option_or}
 use Rattle.std.specs.List.{AllByRecursion}
 use Rattle.std.specs.FinMap.{FinMap, get, insert, contains_key}
@@ -7,7 +7,7 @@ use Rattle.gx_hash.specs.HashKind.{kind_of}
 use Rattle.gx_hash.specs.ObjectId.{object_id, id_cmp, null_id, empty_tree_id}
 use Rattle.gx_hash.specs.declared.kind.HashKind.{HashKind}
 use Rattle.gx_hash.specs.declared.oid.ObjectId.{ObjectId}
-use Rattle.gx_hash.specs.contracts.oid.ObjectIdPartialEq.TheImpl as object_id_eq
+use Rattle.gx_hash.specs.ObjectIds.{id_eq}
 use Rattle.gx_object.specs.Kind.{kind_name}
 use Rattle.gx_object.specs.declared.kind.Kind.{Kind}
 use Rattle.gx_object.specs.declared.kind.Kind.TheVariants.{Tree}
@@ -15,9 +15,6 @@ use Rattle.gx_object.specs.declared.kind.Kind.TheVariants.{Tree}
 -- A store of objects is a map from ids to kinds and bytes. (Git, "Git Internals - Git Objects")
 abbrev pub Content : Type 0
 Content = FinMap id_cmp (Kind × List ℕ)
-
-abbrev pub id_eq : ObjectId → ObjectId → Bool
-id_eq = (object_id_eq.ghosts).eq
 
 -- The empty tree counts as stored everywhere, whether or not it was written. (Git, object-file.c, "cached objects")
 abbrev pub lookup : Content → ObjectId → Option (Kind × List ℕ)

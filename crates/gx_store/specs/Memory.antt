@@ -2,7 +2,7 @@
 use Rattle.std.specs.Prelude.{Bool, false, Some, nat_eq}
 use Rattle.std.specs.List.{list_any}
 use Rattle.std.specs.Cmp.Lexicographic.{pointwise}
-use Rattle.gx_store.specs.Content.{id_eq}
+use Rattle.gx_hash.specs.ObjectIds.{id_eq}
 use Rattle.gx_store.specs.State.{StoreState}
 use Rattle.gx_store.specs.Kept.{content_of}
 use Rattle.gx_store.specs.Slots.{refs_of}

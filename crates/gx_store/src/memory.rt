@@ -14,6 +14,13 @@ use std::alloc::Global;
 use std::collections::BTreeMap;
 
 /// A store in memory, for tests and for runs without a folder. Tests can make its calls fail.
+///
+/// ```
+/// let mut store = Memory::new(alloc, HashKind::Sha1)?;
+/// let id = object_id(HashKind::Sha1, b"blob", b"hello world");
+/// store.write(alloc, id, Kind::Blob, b"hello world")?;
+/// let is_stored = store.exists(alloc, &id)?;
+/// ```
 #[derive(Drop)]
 pub struct Memory {
     hash: HashKind,
@@ -110,6 +117,14 @@ impl Memory {
     {
         self.failing.push(nth)?;
         Ok(())
+    }
+
+    /// How many calls failed to change the store.
+    #[tactic(auto, unfolding(crate::specs::Memory::memory_state))]
+    pub fn fault_count(&self) -> u64
+        ensures { result ≡ (memory_state self.now).faults }
+    {
+        self.faults
     }
 
     /// A fault where tests have broken the object.
@@ -371,6 +386,3 @@ impl References for Memory {
 }
 
 impl Store for Memory {}
-
-#[cfg(test)]
-mod tests;

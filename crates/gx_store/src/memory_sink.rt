@@ -72,21 +72,3 @@ impl Sink for MemorySink {
         }
     }
 }
-
-#[cfg(test)]
-mod tests {
-    use super::*;
-    use std::test::Fail;
-
-    #[test]
-    fn listed_calls_fail_and_write_nothing(rt: HostRuntime) -> Result<(), Fail> {
-        let mut failing = Vec::new(rt.alloc());
-        failing.push(2)?;
-        let mut sink = MemorySink::new(rt.alloc(), Calls::from_vec(failing));
-        assert_eq!(rt; sink.write(b"ab"), Ok(2));
-        assert_eq!(rt; sink.write(b"cd"), Err(SinkError::Failed));
-        assert_eq!(rt; sink.write(b"ef"), Ok(2));
-        assert_eq!(rt; sink.written(), b"abef".as_slice());
-        Ok(())
-    }
-}

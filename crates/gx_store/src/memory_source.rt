@@ -83,24 +83,3 @@ impl Source for MemorySource {
         Ok(count)
     }
 }
-
-#[cfg(test)]
-mod tests {
-    use super::*;
-    use std::test::Fail;
-
-    #[test]
-    fn listed_calls_fail_and_take_nothing(rt: HostRuntime) -> Result<(), Fail> {
-        let mut failing = Vec::new(rt.alloc());
-        failing.push(2)?;
-        let bytes = Bytes::from_slice(rt.alloc(), b"abc")?;
-        let mut source = MemorySource::chunked(bytes, Calls::from_vec(failing), 2);
-        let mut buf = [0; 4];
-        assert_eq!(rt; source.read(&mut buf), Ok(2));
-        assert_eq!(rt; source.read(&mut buf), Err(SourceError::Failed));
-        assert_eq!(rt; source.read(&mut buf), Ok(1));
-        assert_eq!(rt; buf[0], b'c');
-        assert_eq!(rt; source.read(&mut buf), Ok(0));
-        Ok(())
-    }
-}

@@ -18,6 +18,13 @@ impl<W: Write + Drop> StdSink<W> {
     {
         StdSink { inner, faults: 0 }
     }
+
+    /// How many writes failed.
+    pub fn fault_count(&self) -> u64
+        ensures { result ≡ write_faults self.now }
+    {
+        self.faults
+    }
 }
 
 impl<W: Write + Drop> Sink for StdSink<W> {
@@ -33,41 +40,5 @@ impl<W: Write + Drop> Sink for StdSink<W> {
                 Err(SinkError::Failed)
             }
         }
-    }
-}
-
-#[cfg(test)]
-mod tests {
-    use super::*;
-    use std::io;
-
-    /// A writer that takes nothing.
-    #[derive(Drop)]
-    struct Full;
-
-    impl Write for Full {
-        fn write(&mut self, _piece: &[u8]) -> io::Result<usize> {
-            Ok(0)
-        }
-
-        fn flush(&mut self) -> io::Result<()> {
-            Ok(())
-        }
-    }
-
-    #[test]
-    fn a_write_of_nothing_is_a_fault(rt: HostRuntime) {
-        let mut sink = StdSink::new(Full);
-        assert_eq!(rt; sink.write(b"ab"), Err(SinkError::Failed));
-        assert_eq!(rt; sink.faults, 1);
-    }
-
-    #[test]
-    fn a_writer_takes_what_is_written(rt: HostRuntime) {
-        let mut sink = StdSink::new(Vec::new(rt.alloc()));
-        assert_eq!(rt; sink.write(b"ab"), Ok(2));
-        assert_eq!(rt; sink.write(b"c"), Ok(1));
-        assert_eq!(rt; sink.inner.as_slice(), b"abc".as_slice());
-        assert_eq!(rt; sink.faults, 0);
     }
 }

@@ -18,6 +18,13 @@ impl<R: Read + Drop> StdSource<R> {
     {
         StdSource { inner, faults: 0 }
     }
+
+    /// How many reads failed.
+    pub fn fault_count(&self) -> u64
+        ensures { result ≡ read_faults self.now }
+    {
+        self.faults
+    }
 }
 
 impl<R: Read + Drop> Source for StdSource<R> {
@@ -33,40 +40,5 @@ impl<R: Read + Drop> Source for StdSource<R> {
                 Err(SourceError::Failed)
             }
         }
-    }
-}
-
-#[cfg(test)]
-mod tests {
-    use super::*;
-    use std::io;
-
-    /// A reader that fails.
-    #[derive(Drop)]
-    struct Closed;
-
-    impl Read for Closed {
-        fn read(&mut self, _buf: &mut [u8]) -> io::Result<usize> {
-            Err(io::Error::from(io::ErrorKind::Other))
-        }
-    }
-
-    #[test]
-    fn a_reader_is_read_to_its_end(rt: HostRuntime) {
-        let mut source = StdSource::new(b"abc".as_slice());
-        let mut buf = [0; 2];
-        assert_eq!(rt; source.read(&mut buf), Ok(2));
-        assert_eq!(rt; buf.as_slice(), b"ab".as_slice());
-        assert_eq!(rt; source.read(&mut buf), Ok(1));
-        assert_eq!(rt; buf[0], b'c');
-        assert_eq!(rt; source.read(&mut buf), Ok(0));
-        assert_eq!(rt; source.faults, 0);
-    }
-
-    #[test]
-    fn an_error_is_a_fault(rt: HostRuntime) {
-        let mut source = StdSource::new(Closed);
-        assert_eq!(rt; source.read(&mut [0; 2]), Err(SourceError::Failed));
-        assert_eq!(rt; source.faults, 1);
     }
 }

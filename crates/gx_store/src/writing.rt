@@ -41,6 +41,3 @@ pub fn write_objects<S: Objects>(
     }
     Ok(())
 }
-
-#[cfg(test)]
-mod tests;

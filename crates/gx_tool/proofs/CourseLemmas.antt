@@ -24,8 +24,8 @@ use Rattle.gix.specs.Machine.{WhereTold}
 use Rattle.gx_tool.specs.Machine.{Run, IsReply}
 use Rattle.gx_tool.specs.Serving.{Serves, ServesAll, Stops}
 use Rattle.gx_tool.specs.Reply.{texts, reply_text, all_accepted, is_accepted}
-use Rattle.gx_tool.specs.declared.execute.ExecuteError.{ExecuteError}
-use Rattle.gx_tool.specs.declared.execute.ExecuteError.TheVariants as no_reply
+use Rattle.gx_tool.specs.declared.executing.ExecuteError.{ExecuteError}
+use Rattle.gx_tool.specs.declared.executing.ExecuteError.TheVariants as no_reply
 use Rattle.gx_store.specs.declared.error.What.{What}
 use Rattle.gx_tool.specs.Course.{Moment, Course, Ends, Served, taken_count, GotNoReply, WritesFront}
 use Rattle.gx_tool.proofs.MachineLemmas.{runs_none, runs_on}

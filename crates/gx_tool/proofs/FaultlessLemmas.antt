@@ -14,7 +14,7 @@ use Rattle.gix.specs.Causes.{HasFault}
 use Rattle.gx_script.specs.declared.request.Request.{Request}
 use Rattle.gx_script.specs.declared.request.Request.TheVariants.{Commit, Identity, Tag, Ref, Delete, Refs, Log, Paths, Walk, Bases, Octopus, Describe, NoteSet, NoteDrop, NoteGet, Head, Namespace}
 use Rattle.gx_script.specs.Spelling.{spelling}
-use Rattle.gx_tool.specs.declared.execute.ExecuteError.TheVariants as no_reply
+use Rattle.gx_tool.specs.declared.executing.ExecuteError.TheVariants as no_reply
 use Rattle.gx_tool.specs.declared.reply.Reply.{Reply}
 use Rattle.gx_tool.specs.declared.reply.Reply.TheVariants.{Committed, Refused}
 use Rattle.gx_tool.specs.declared.status.Status.{Status}

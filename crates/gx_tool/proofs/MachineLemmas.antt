@@ -12,7 +12,7 @@ use Rattle.gix.specs.Machine.{Accepts, Refuses, IsRefusal, state_of, BothTold, W
 use Rattle.gx_script.specs.declared.request.CommitRequest.{CommitRequest as Asked}
 use Rattle.gx_script.specs.declared.request.Request.{Request}
 use Rattle.gx_script.specs.declared.request.Request.TheVariants.{Commit, Identity, Tag, Ref, Delete, Refs, Log, Paths, Walk, Bases, Octopus, Describe, NoteSet, NoteDrop, NoteGet, Head, Namespace}
-use Rattle.gx_tool.specs.declared.execute.ExecuteError.{ExecuteError}
+use Rattle.gx_tool.specs.declared.executing.ExecuteError.{ExecuteError}
 use Rattle.gx_tool.specs.declared.refusal.Refusal.TheVariants.{Unsupported}
 use Rattle.gx_tool.specs.declared.reply.Reply.{Reply}
 use Rattle.gx_tool.specs.declared.reply.Reply.TheVariants.{Refused}

@@ -13,7 +13,7 @@ use Rattle.gx_script.specs.declared.request.Request.TheVariants.{Commit, Identit
 use Rattle.gx_tool.specs.declared.refusal.Refusal.TheVariants.{Unsupported}
 use Rattle.gx_tool.specs.declared.reply.Reply.{Reply}
 use Rattle.gx_tool.specs.declared.reply.Reply.TheVariants.{Refused}
-use Rattle.gx_tool.specs.declared.execute.ExecuteError.{ExecuteError}
+use Rattle.gx_tool.specs.declared.executing.ExecuteError.{ExecuteError}
 use Rattle.gx_tool.specs.Serving.{call_of, reply_to, reply_to_refusal, Serves, Stops}
 
 -- a refusal that gets a reply

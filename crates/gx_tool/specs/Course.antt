@@ -11,8 +11,8 @@ use Rattle.gx_script.specs.declared.request.Request.{Request}
 use Rattle.gx_script.specs.Spelling.{spelling}
 use Rattle.gx_script.specs.Script.{IsRequest, Begins, IsBad}
 use Rattle.gx_tool.specs.declared.reply.Reply.{Reply}
-use Rattle.gx_tool.specs.declared.execute.ExecuteError.{ExecuteError}
-use Rattle.gx_tool.specs.declared.execute.ExecuteError.TheVariants as no_reply
+use Rattle.gx_tool.specs.declared.executing.ExecuteError.{ExecuteError}
+use Rattle.gx_tool.specs.declared.executing.ExecuteError.TheVariants as no_reply
 use Rattle.gx_tool.specs.declared.status.Status.{Status}
 use Rattle.gx_tool.specs.declared.status.Status.TheVariants.{Done, Refusals, Malformed, ReadFault, WriteFault, NoMemory, BadWords, StoreFault, TooLong}
 use Rattle.gix.specs.Machine.{WhereTold}

@@ -14,8 +14,8 @@ use Rattle.gx_script.specs.declared.request.Request.TheVariants.{Commit}
 use Rattle.gx_tool.specs.declared.refusal.Refusal.TheVariants.{Unsupported, Find, Kind, Decode, EmptyComponent, Filename, Missing, Unwritable, Cycle, Depth, MustExist, MustNotExist, OutOfDate, Conflict}
 use Rattle.gx_tool.specs.declared.reply.Reply.{Reply}
 use Rattle.gx_tool.specs.declared.reply.Reply.TheVariants.{Committed, Refused}
-use Rattle.gx_tool.specs.declared.execute.ExecuteError.{ExecuteError}
-use Rattle.gx_tool.specs.declared.execute.ExecuteError.TheVariants as no_reply
+use Rattle.gx_tool.specs.declared.executing.ExecuteError.{ExecuteError}
+use Rattle.gx_tool.specs.declared.executing.ExecuteError.TheVariants as no_reply
 
 -- the call that a `commit` asks for
 abbrev pub call_of : Asked → CommitRequest

@@ -9,17 +9,11 @@ ghost use Rattle.gx_edit.specs.CanonicalTree.{Directory, IsCanonical};
 ghost use Rattle.gx_edit.specs.Planning.{leaves_of, rows_at, made, planned, with_tree, with_entry, IsPlan};
 
 use super::groups::{Row, first_group, rest_of};
+use crate::output::PlannedTree;
 use crate::path::split_first_name;
 use gx_hash::{Bytes, HashKind, NoMemory, ObjectId, object_id};
 use gx_object::{Entry, EntryKind, EntryMode, Kind, push_entry};
 use std::alloc::Global;
-
-/// A tree that is to be written.
-#[derive(Drop)]
-pub(super) struct PlannedTree {
-    pub(super) id: ObjectId,
-    pub(super) bytes: Bytes,
-}
 
 /// The trees of a map, children first, and the entries in them.
 #[derive(Drop)]

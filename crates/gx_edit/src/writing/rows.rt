@@ -1,9 +1,8 @@
 // The rows of a map.
 ghost use Rattle.std.specs.Prelude.{◌≡◌, ◌==◌, IfOk};
 ghost use Rattle.std.specs.List.{list_any};
-ghost use Rattle.gx_edit.specs.PathList.{map_of, IsPathMap, IsRising};
+ghost use Rattle.gx_edit.specs.PathList.{map_of, has_zero, IsPathMap, IsRising};
 ghost use Rattle.gx_edit.specs.Planning.{texts_of};
-ghost use Rattle.gx_edit.specs.WritePlain.{has_zero};
 
 use super::groups::Row;
 use crate::{Leaf, PathMap};

@@ -1,4 +1,4 @@
-// Commits as they stand in objects.
+//! Commits as they stand in objects.
 ghost use Rattle.std.specs.Prelude.{◌≡◌, ◌-◌, ◌++◌, List, OnOk, [], ℕ, length, map, IfOk, IsErrOf, MatchResult};
 ghost use Rattle.std.specs.Option.{option_map};
 ghost use Rattle.bstr.specs.BStr.{bstr_bytes};
@@ -6,9 +6,6 @@ ghost use Rattle.gx_object.specs.declared.decode.DecodeError.TheVariants.{Decode
 ghost use Rattle.gx_object.specs.CommitLines.{HasParents, HasHeaders, PushesHeaders};
 ghost use Rattle.gx_object.specs.OwnedCommit.{HasIdsOf};
 ghost use Rattle.gx_object.specs.CommitSpelling.{CommitText, commit_text, header_text, folded, unfolded, SpellsCommit, IsNoCommit};
-
-#[cfg(test)]
-mod tests;
 
 use crate::commit::lines::{header, id_line, identity_line, is_encoding, message};
 use crate::{DecodeError, SignatureRef};
@@ -18,7 +15,7 @@ use smallvec::SmallVec;
 use std::alloc::Global;
 use std::marker::Model;
 
-/// A header of a commit behind the ones that each commit has, as it stands in the object.
+/// A header of a commit beyond those that each commit has, as it stands in the object.
 #[derive(Clone, Copy, Debug)]
 pub struct ExtraHeader<'a> {
     pub name: BStr<'a>,
@@ -30,7 +27,8 @@ impl<'a> ExtraHeader<'a> {
     /// The value without the space that begins each of its lines after the first.
     pub fn value(&self, alloc: Global) -> Result<Bytes, NoMemory>
         ensures value { IfOk result (λ found. found ≡ unfolded (bstr_bytes self.now.raw)) }
-        ensures folded { (value : List ℕ) → bstr_bytes self.now.raw ≡ folded value → IfOk result (λ found. found ≡ value) }
+        ensures folded { (value : List ℕ) → bstr_bytes self.now.raw ≡ folded value
+            → IfOk result (λ found. found ≡ value) }
     {
         let raw = self.raw.as_bytes();
         let mut value = Vec::with_capacity(alloc, raw.len())?;
@@ -118,7 +116,8 @@ impl<'a> CommitRef<'a> {
         hash: HashKind,
     ) -> Result<CommitRef<'a>, DecodeError>
         ensures spelled { IfOk result (λ c. SpellsCommit hash bytes.now (commit_text c)) }
-        ensures only { (c : CommitText) → SpellsCommit hash bytes.now c → MatchResult result (λ found. commit_text found ≡ c) (λ e. e ≡ no_memory) }
+        ensures only { (c : CommitText) → SpellsCommit hash bytes.now c
+            → MatchResult result (λ found. commit_text found ≡ c) (λ e. e ≡ no_memory) }
         ensures refused { (at : ℕ) → IsErrOf result (Decode at) → IsNoCommit hash bytes.now at }
         ensures ids { IfOk result (λ c. HasIdsOf hash (commit_text c)) }
     {
@@ -207,7 +206,8 @@ fn push_headers<'a>(
     headers: &mut Vec<ExtraHeader<'a>>,
     bytes: &'a [u8],
 ) -> Result<&'a [u8], NoMemory>
-    ensures { IfOk result (λ rest. PushesHeaders bytes.now (map header_text headers.old.items) (map header_text headers.new.items) rest.now) }
+    ensures { IfOk result (λ rest. PushesHeaders bytes.now (map header_text headers.old.items)
+        (map header_text headers.new.items) rest.now) }
 {
     let mut rest = bytes;
     while let Some((header, more)) = header(rest) {

@@ -1,4 +1,4 @@
-// Commits that own what they took over from an object.
+//! Commits that own what they took over from an object.
 ghost use Rattle.std.specs.Prelude.{◌≡◌, ◌↔◌, ◌⊎◌, List, map, IfOk, IsErrOf};
 ghost use Rattle.std.specs.List.{AllByRecursion};
 ghost use Rattle.std.specs.Option.{option_map};
@@ -7,7 +7,8 @@ ghost use Rattle.gx_hash.specs.declared.kind.HashKind.{HashKind};
 ghost use Rattle.gx_hash.specs.HashKind.{IsOfKind};
 ghost use Rattle.gx_hash.specs.ObjectId.{hex_of};
 ghost use Rattle.gx_object.specs.declared.signature.decode.SignatureError.TheVariants.{BadTime as bad_time};
-ghost use Rattle.gx_object.specs.CommitSpelling.{IsHexId, commit_text, header_text};
+ghost use Rattle.gx_hash.specs.IdDigits.{IsHexId};
+ghost use Rattle.gx_object.specs.CommitSpelling.{commit_text, header_text};
 ghost use Rattle.gx_object.specs.IdentitySpelling.{identity_text};
 ghost use Rattle.gx_object.specs.OwnedCommit.{HasIds, HasIdsOf, HasNoTime, IsCopyOf, IsOfHash, owned_header};
 ghost use Rattle.gx_object.specs.OwnedTag.{OwnsIdentity};
@@ -20,7 +21,9 @@ use gx_hash::{Bytes, NoMemory, ObjectId};
 use std::alloc::Global;
 
 impl CommitRef<'_> {
-    /// A copy that owns its parts. Both times are read before anything is copied.
+    /// A copy that owns its parts, in memory of its own: the borrowed texts have none to go on with. Both times are
+    /// read
+    /// before anything is copied.
     ///
     /// # Errors
     /// `BadTime` where the author's or the committer's time can't be read.
@@ -28,7 +31,8 @@ impl CommitRef<'_> {
         requires { HasIds (commit_text self.now) }
         ensures copy { IfOk result (IsCopyOf (commit_text self.now)) }
         ensures kind { (hash : HashKind) → HasIdsOf hash (commit_text self.now) → IfOk result (IsOfHash hash) }
-        ensures bad_time { IsErrOf result bad_time ↔ (HasNoTime (commit_text self.now).author ⊎ HasNoTime (commit_text self.now).committer) }
+        ensures bad_time { IsErrOf result bad_time
+            ↔ (HasNoTime (commit_text self.now).author ⊎ HasNoTime (commit_text self.now).committer) }
     {
         let author_time = self.author.time()?;
         let committer_time = self.committer.time()?;
@@ -49,7 +53,7 @@ fn own_commit(
     ensures kind { (hash : HashKind) → HasIdsOf hash (commit_text commit.now) → IfOk result (IsOfHash hash) }
 {
     Ok(Commit {
-        tree: read_id(commit.tree.as_bytes()),
+        tree: ObjectId::from_digits(commit.tree.as_bytes()),
         parents: own_ids(alloc, commit.parents.as_slice())?,
         author: own_identity(alloc, &commit.author, author_time)?,
         committer: own_identity(alloc, &commit.committer, committer_time)?,
@@ -70,23 +74,15 @@ fn own_identity(alloc: Global, who: &SignatureRef<'_>, time: Time) -> Result<Sig
     })
 }
 
-/// The id that has these digits.
-fn read_id(text: &[u8]) -> ObjectId
-    requires { (hash : HashKind) × IsHexId hash text.now }
-    ensures digits { hex_of result ≡ text.now }
-    ensures kind { (hash : HashKind) → IsHexId hash text.now → IsOfKind hash result }
-{
-    ObjectId::from_hex(text).unwrap()
-}
-
 fn own_ids(alloc: Global, digits: &[BStr<'_>]) -> Result<Ids, NoMemory>
     requires { (hash : HashKind) × AllByRecursion (IsHexId hash) (map bstr_bytes digits.now) }
     ensures digits { IfOk result (λ ids. map hex_of ids ≡ map bstr_bytes digits.now) }
-    ensures kind { (hash : HashKind) → AllByRecursion (IsHexId hash) (map bstr_bytes digits.now) → IfOk result (AllByRecursion (IsOfKind hash)) }
+    ensures kind { (hash : HashKind) → AllByRecursion (IsHexId hash) (map bstr_bytes digits.now)
+        → IfOk result (AllByRecursion (IsOfKind hash)) }
 {
     let mut ids = Vec::with_capacity(alloc, digits.len())?;
     for text in digits {
-        ids.push(read_id(text.as_bytes()))?;
+        ids.push(ObjectId::from_digits(text.as_bytes()))?;
     }
     Ok(Ids::from_vec(ids))
 }
@@ -117,43 +113,4 @@ fn own_header(alloc: Global, header: &ExtraHeader<'_>) -> Result<OwnedHeader, No
         name: Bytes::from_slice(alloc, header.name.as_bytes())?,
         value: header.value(alloc)?,
     })
-}
-
-#[cfg(test)]
-mod tests {
-    use super::*;
-    use crate::WriteTo;
-    use gx_hash::HashKind;
-
-    /// Whether the bytes are a commit that is the same when it is written again.
-    fn is_written_again(alloc: Global, bytes: &[u8]) -> bool {
-        let Ok(commit) = CommitRef::from_bytes(alloc, bytes, HashKind::Sha1) else {
-            return false;
-        };
-        let Ok(owned) = commit.to_owned(alloc) else {
-            return false;
-        };
-        let Ok(written) = owned.to_bytes(alloc) else {
-            return false;
-        };
-        written.as_slice() == bytes
-    }
-
-    #[test]
-    fn a_commit_of_git_is_written_as_it_was_read(rt: HostRuntime) {
-        let commit =
-            b"tree 4b825dc642cb6eb9a060e54bf8d69288fbee4904\nparent 726c543971a2faccb38c8357e483c5aa1bd88228\nauthor A <a@x> 1 +0000\ncommitter B <b@x> 2 -0130\nencoding ISO-8859-1\nnote a\n b\n\nc2\n";
-        assert!(rt; is_written_again(rt.alloc(), commit));
-    }
-
-    #[test]
-    fn a_copy_wants_times_that_can_be_read(rt: HostRuntime) {
-        let commit =
-            b"tree 4b825dc642cb6eb9a060e54bf8d69288fbee4904\nauthor A <a@x> 1 +0000\ncommitter A <a@x> now\n\n";
-        let alloc = rt.alloc();
-        let Ok(read) = CommitRef::from_bytes(alloc, commit, HashKind::Sha1) else {
-            panic!(rt; "the commit is read");
-        };
-        assert!(rt; matches!(read.to_owned(alloc), Err(SignatureError::BadTime)));
-    }
 }

@@ -1,15 +1,13 @@
-// What a commit's signature is, and what it signs.
+//! What a commit's signature is, and what it signs.
 ghost use Rattle.std.specs.Prelude.{◌≡◌, ◌-◌, ◌++◌, List, ℕ, length, take, IfOk, IfErr, MatchResult, MatchOption, codes};
 ghost use Rattle.std.specs.List.{AllByRecursion};
 ghost use Rattle.gx_object.specs.declared.decode.DecodeError.TheVariants.{NoMemory as no_memory};
 ghost use Rattle.gx_object.specs.CommitSignature.{signature_name, lines_to_end, IsOther, FirstNamed, HasSignature, IsUnsigned, IsSignedBy, TellsSignature, RefusesCommit, MissesSignature, SpellsSome};
 ghost use Rattle.gx_object.specs.CommitSpelling.{CommitText, HeaderText, IsHeader, SpellsCommit, header_text};
 
-#[cfg(test)]
-mod tests;
-
+use crate::commit::fields::{committer_line, read_message};
 use crate::commit::lines::header;
-use crate::{CommitRefIter, DecodeError, ExtraHeader};
+use crate::{DecodeError, ExtraHeader};
 use gx_hash::{Bytes, HashKind, NoMemory};
 use std::alloc::Global;
 use std::marker::Model;
@@ -52,8 +50,10 @@ pub fn signature_of<'a>(
     bytes: &'a [u8],
     hash: HashKind,
 ) -> Result<Option<(Bytes, SignedData<'a>)>, DecodeError>
-    ensures told { IfOk result (λ told. MatchOption told (IsUnsigned hash bytes.now) (λ p. IsSignedBy hash bytes.now p.0 p.1)) }
-    ensures only { (c : CommitText) → SpellsCommit hash bytes.now c → MatchResult result (TellsSignature hash bytes.now c) (λ e. e ≡ no_memory) }
+    ensures told { IfOk result (λ told. MatchOption told (IsUnsigned hash bytes.now)
+        (λ p. IsSignedBy hash bytes.now p.0 p.1)) }
+    ensures only { (c : CommitText) → SpellsCommit hash bytes.now c
+        → MatchResult result (TellsSignature hash bytes.now c) (λ e. e ≡ no_memory) }
     ensures missed { IfErr result (MissesSignature hash bytes.now) }
 {
     read_signature(alloc, bytes, hash)
@@ -64,7 +64,8 @@ fn read_signature<'a>(
     bytes: &'a [u8],
     hash: HashKind,
 ) -> Result<Option<(Bytes, SignedData<'a>)>, DecodeError>
-    ensures told { IfOk result (λ told. MatchOption told (IsUnsigned hash bytes.now) (λ p. IsSignedBy hash bytes.now p.0 p.1)) }
+    ensures told { IfOk result (λ told. MatchOption told (IsUnsigned hash bytes.now)
+        (λ p. IsSignedBy hash bytes.now p.0 p.1)) }
     ensures missed { IfErr result (MissesSignature hash bytes.now) }
 {
     let Some((header, signed)) = find_signature(bytes, hash)? else {
@@ -78,12 +79,13 @@ fn find_signature<'a>(
     bytes: &'a [u8],
     hash: HashKind,
 ) -> Result<Option<(ExtraHeader<'a>, SignedData<'a>)>, DecodeError>
-    ensures found { IfOk result (λ found. MatchOption found (IsUnsigned hash bytes.now) (λ p. SpellsSome hash bytes.now (λ c. HasSignature hash bytes.now c (header_text p.0) p.1))) }
+    ensures found { IfOk result
+        (λ found. MatchOption found (IsUnsigned hash bytes.now)
+        (λ p. SpellsSome hash bytes.now (λ c. HasSignature hash bytes.now c (header_text p.0) p.1))) }
     ensures refused { IfErr result (RefusesCommit hash bytes.now) }
 {
-    let commit = CommitRefIter::from_bytes(bytes, hash);
-    let _ = commit.message()?;
-    let (_, headers) = commit.committer_line()?;
+    let _ = read_message(bytes, hash)?;
+    let (_, headers) = committer_line(bytes, hash)?;
     let Some((header, lines, rest)) = first_named(headers, name_of_signature(hash)) else {
         return Ok(None);
     };
@@ -101,7 +103,10 @@ fn name_of_signature(hash: HashKind) -> &'static [u8]
 
 // The first header of the name, the bytes from it on, and those behind it.
 fn first_named<'a>(bytes: &'a [u8], name: &[u8]) -> Option<(ExtraHeader<'a>, &'a [u8], &'a [u8])>
-    ensures { (headers : List HeaderText) (message : List ℕ) → AllByRecursion IsHeader headers → bytes.now ≡ lines_to_end headers message → MatchOption result (AllByRecursion (IsOther name.now) headers) (λ p. FirstNamed name.now headers message (header_text p.0) p.1.now p.2.now) }
+    ensures { (headers : List HeaderText) (message : List ℕ) → AllByRecursion IsHeader headers
+        → bytes.now ≡ lines_to_end headers message
+        → MatchOption result (AllByRecursion (IsOther name.now) headers)
+        (λ p. FirstNamed name.now headers message (header_text p.0) p.1.now p.2.now) }
 {
     let mut rest = bytes;
     while let Some((found, more)) = header(rest) {

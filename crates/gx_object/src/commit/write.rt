@@ -1,4 +1,4 @@
-// The bytes that spell commits.
+//! The bytes that spell commits.
 ghost use Rattle.std.specs.Prelude.{◌≡◌, [], ◌∷◌, ◌==◌, ◌&&◌, ◌++◌, not, codes, true, false, OnOk, IfOk, IsErrOf, IfSome, IfNone};
 ghost use Rattle.std.specs.List.{flat_map, list_all};
 ghost use Rattle.gx_object.specs.Field.{first_unwritable};
@@ -22,7 +22,8 @@ pub fn push_commit(
     committer: &Signature,
     message: &[u8],
 ) -> Result<(), NoMemory>
-    ensures { OnOk result (out.new.items ≡ out.old.items ++ plain_commit_bytes tree.now parents.now author.now committer.now message.now) }
+    ensures { OnOk result (out.new.items ≡ out.old.items
+        ++ plain_commit_bytes tree.now parents.now author.now committer.now message.now) }
 {
     out.reserve(room_of(tree, parents, author, committer).saturating_add(message.len()))?;
     push_head(out, tree, parents, author, committer)?;
@@ -140,11 +141,31 @@ fn push_folded(out: &mut Vec<u8>, value: &[u8]) -> Result<(), NoMemory>
     Ok(())
 }
 
+// How many bytes a commit takes, but for spaces that its headers' values are folded with.
 fn room_of_commit(commit: &Commit) -> usize {
     let parents = commit.parents.as_slice();
-    room_of(&commit.tree, parents, &commit.author, &commit.committer).saturating_add(
-        commit.message.as_slice().len(),
-    )
+    room_of(&commit.tree, parents, &commit.author, &commit.committer)
+        .saturating_add(room_of_encoding(&commit.encoding))
+        .saturating_add(room_of_headers(commit.extra_headers.as_slice()))
+        .saturating_add(commit.message.as_slice().len())
+}
+
+fn room_of_encoding(encoding: &Option<Bytes>) -> usize {
+    match encoding {
+        None => 0,
+        Some(text) => text.as_slice().len().saturating_add(b"encoding \n".len()),
+    }
+}
+
+fn room_of_headers(headers: &[OwnedHeader]) -> usize {
+    let mut room: usize = 0;
+    for header in headers {
+        room = room
+            .saturating_add(header.name.as_slice().len())
+            .saturating_add(header.value.as_slice().len())
+            .saturating_add(2);
+    }
+    room
 }
 
 #[tactic(auto, unfolding(crate::specs::Commit::commit_bytes))]
@@ -203,7 +224,7 @@ fn can_write_encoding(encoding: &Option<Bytes>) -> bool
 }
 
 // The first field that can't be written.
-#[tactic(auto, using(crate::proofs::CommitFields::all_writable))]
+#[tactic(auto, using(crate::specs::Laws::CommitFields::all_writable))]
 fn unwritable_field(commit: &Commit) -> Option<Field>
     ensures first { result ≡ first_unwritable (is_writable_commit commit.now) }
     ensures found { IfSome result (λ field. is_writable_commit commit.now field ≡ false) }

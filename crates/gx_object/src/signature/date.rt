@@ -1,4 +1,4 @@
-// Times as they stand in objects.
+//! Times as they stand in objects.
 ghost use Rattle.std.specs.Prelude.{◌≡◌, ◌<◌, ℕ, ℤ, [], ◌∷◌, MatchOption, SomeIff};
 ghost use Rattle.std.specs.Char.{digit_value};
 ghost use Rattle.gx_object.specs.declared.signature.Time.{Time};
@@ -20,7 +20,8 @@ pub(crate) fn read_time(text: &[u8]) -> Option<Time>
 
 /// The seconds that stand in front of the first space.
 pub(crate) fn leading_seconds(text: &[u8]) -> Option<i64>
-    ensures { MatchOption result ((seconds : ℤ) → ¬ SpellsSeconds (seconds_text text.now) seconds) (SpellsSeconds (seconds_text text.now)) }
+    ensures { MatchOption result ((seconds : ℤ)
+        → ¬ SpellsSeconds (seconds_text text.now) seconds) (SpellsSeconds (seconds_text text.now)) }
 {
     match split_at_byte(b' ', text) {
         Some((seconds, _)) => read_seconds(seconds),
@@ -52,7 +53,8 @@ fn read_offset(text: &[u8]) -> Option<i32>
 }
 
 fn two_digits(text: &[u8]) -> Option<u32>
-    ensures { MatchOption result ((number : ℕ) → ¬ SpellsTwoDigits text.now number) (λ number. SpellsTwoDigits text.now number × (number < 100)) }
+    ensures { MatchOption result ((number : ℕ)
+        → ¬ SpellsTwoDigits text.now number) (λ number. SpellsTwoDigits text.now number × (number < 100)) }
 {
     match text {
         [tens, ones] => Some(digit(*tens)? * 10 + digit(*ones)?),

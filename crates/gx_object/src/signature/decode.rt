@@ -1,13 +1,10 @@
-// Identities as they stand in objects.
+//! Identities as they stand in objects.
 ghost use Rattle.std.specs.Prelude.{◌≡◌, ◌↔◌, MatchOption, MatchResult, IfOk, IsErrOf};
 ghost use Rattle.bstr.specs.BStr.{bstr_bytes};
 ghost use Rattle.gx_object.specs.declared.signature.Time.{Time};
 ghost use Rattle.gx_object.specs.declared.signature.decode.SignatureError.TheVariants.{BadTime as bad_time, NoMemory as no_memory};
 ghost use Rattle.gx_object.specs.IdentitySpelling.{IdentityText, identity_text, trimmed, SpellsIdentity, DropsSpaceBehind, DropsSpaceInFront};
 ghost use Rattle.gx_object.specs.TimeSpelling.{SpellsTime, BeginsWithSeconds};
-
-#[cfg(test)]
-mod tests;
 
 use super::date::{leading_seconds, read_time};
 use crate::message::{trim_end, trim_start};
@@ -78,7 +75,8 @@ impl<'a> SignatureRef<'a> {
 
     /// The time, where the text is one, and nothing else.
     pub fn time(&self) -> Result<Time, BadTime>
-        ensures { MatchResult result (SpellsTime (bstr_bytes self.now.time)) (λ _. (time : Time) → ¬ SpellsTime (bstr_bytes self.now.time) time) }
+        ensures { MatchResult result (SpellsTime (bstr_bytes self.now.time)) (λ _. (time : Time)
+            → ¬ SpellsTime (bstr_bytes self.now.time) time) }
     {
         read_time(self.time.as_bytes()).ok_or(BadTime)
     }
@@ -88,7 +86,8 @@ impl<'a> SignatureRef<'a> {
         ensures name { IfOk result (λ owned. owned.name ≡ bstr_bytes self.now.name) }
         ensures email { IfOk result (λ owned. owned.email ≡ bstr_bytes self.now.email) }
         ensures time { IfOk result (λ owned. SpellsTime (bstr_bytes self.now.time) owned.time) }
-        ensures bad_time { IsErrOf result SignatureError.BadTime ↔ ((time : Time) → ¬ SpellsTime (bstr_bytes self.now.time) time) }
+        ensures bad_time { IsErrOf result SignatureError.BadTime
+            ↔ ((time : Time) → ¬ SpellsTime (bstr_bytes self.now.time) time) }
     {
         let time = self.time()?;
         Ok(Signature {
@@ -99,9 +98,10 @@ impl<'a> SignatureRef<'a> {
     }
 }
 
-/// The parts of an identity's line, without the word in front and the newline behind it.
+/// The parts of an identity's line, without the word in front and the newline at its end.
 pub(crate) fn split_identity(line: &[u8]) -> Option<SignatureRef<'_>>
-    ensures { MatchOption result ((who : IdentityText) → ¬ SpellsIdentity line.now who) (λ who. SpellsIdentity line.now (identity_text who)) }
+    ensures { MatchOption result ((who : IdentityText)
+        → ¬ SpellsIdentity line.now who) (λ who. SpellsIdentity line.now (identity_text who)) }
 {
     let close = memrchr(b'>', line)?;
     let open = memchr(b'<', line.split_at(close).0)?;

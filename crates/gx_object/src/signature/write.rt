@@ -1,4 +1,4 @@
-// The bytes that spell identities, and which of them can be written.
+//! The bytes that spell identities, and which of them can be written.
 ghost use Rattle.std.specs.Prelude.{◌≡◌, ◌++◌, true, false, OnOk, IfSome, IfNone};
 ghost use Rattle.gx_object.specs.Field.{first_unwritable};
 ghost use Rattle.gx_object.specs.Identity.{two_digits, offset_bytes, time_bytes, identity_bytes, is_writable_text, is_writable_offset, is_writable_identity, are_writable};

@@ -1,17 +1,14 @@
-// Tags as they stand in objects.
+//! Tags as they stand in objects.
 ghost use Rattle.std.specs.Prelude.{◌≡◌, ◌↔◌, IfOk, IfErr, IsErrOf, MatchResult};
 ghost use Rattle.std.specs.Option.{option_map};
 ghost use Rattle.bstr.specs.BStr.{bstr_bytes};
 ghost use Rattle.gx_hash.specs.declared.kind.HashKind.{HashKind};
 ghost use Rattle.gx_hash.specs.HashKind.{IsOfKind};
 ghost use Rattle.gx_hash.specs.ObjectId.{hex_of};
-ghost use Rattle.gx_object.specs.CommitSpelling.{IsHexId};
+ghost use Rattle.gx_hash.specs.IdDigits.{IsHexId};
 ghost use Rattle.gx_object.specs.IdentitySpelling.{identity_text};
 ghost use Rattle.gx_object.specs.OwnedTag.{IsIdText, OwnsTagger, OwnsTag, HasBadTime};
 ghost use Rattle.gx_object.specs.TagSpelling.{TagText, tag_text, SpellsTag, RefusesTag};
-
-#[cfg(test)]
-mod tests;
 
 use crate::commit::{bad_line, id_line};
 use crate::tag::lines::{body, name_line, tagger_line, type_line};
@@ -50,12 +47,13 @@ impl<'a> TagRef<'a> {
     pub fn to_owned(&self, alloc: Global) -> Result<Tag, SignatureError>
         requires { IsIdText (tag_text self.now).target }
         ensures owned { IfOk result (OwnsTag (tag_text self.now)) }
-        ensures kind { (hash : HashKind) → IsHexId hash (tag_text self.now).target → IfOk result (λ owned. IsOfKind hash owned.target) }
+        ensures kind { (hash : HashKind) → IsHexId hash (tag_text self.now).target
+            → IfOk result (λ owned. IsOfKind hash owned.target) }
         ensures bad_time { IsErrOf result SignatureError.BadTime ↔ HasBadTime (tag_text self.now).tagger }
     {
         let tagger = owned_tagger(alloc, &self.tagger)?;
         Ok(Tag {
-            target: target_of(self.target.as_bytes()),
+            target: ObjectId::from_digits(self.target.as_bytes()),
             target_kind: self.target_kind,
             name: Bytes::from_slice(alloc, self.name.as_bytes())?,
             tagger,
@@ -63,14 +61,6 @@ impl<'a> TagRef<'a> {
             signature: owned_text(alloc, &self.signature)?,
         })
     }
-}
-
-fn target_of(text: &[u8]) -> ObjectId
-    requires { IsIdText text.now }
-    ensures digits { hex_of result ≡ text.now }
-    ensures kind { (hash : HashKind) → IsHexId hash text.now → IsOfKind hash result }
-{
-    ObjectId::from_hex(text).unwrap()
 }
 
 fn owned_tagger(

@@ -1,4 +1,4 @@
-// The parts of a tag, and how each is read.
+//! The parts of a tag, and how each is read.
 ghost use Rattle.std.specs.Prelude.{MatchOption, IfSome, Some, Ok};
 ghost use Rattle.gx_hash.specs.declared.kind.HashKind.{HashKind};
 ghost use Rattle.gx_object.specs.TagFronts.{Target, TargetKind, Name, Tagger, next_of};
@@ -20,7 +20,7 @@ pub enum TagToken<'a> {
     },
     TargetKind(Kind),
     Name(BStr<'a>),
-    /// Who made the tag, where it tells that.
+    /// Who made the tag, where it has a tagger.
     Tagger {
         signature: SignatureRef<'a>,
     },
@@ -41,11 +41,12 @@ pub(crate) enum Stage {
     End,
 }
 
-// A part, what stands behind it, and what comes next there.
+// A part, what follows it, and what comes next there.
 type Step<'a> = (TagToken<'a>, &'a [u8], Stage);
 
 fn target_item(bytes: &[u8], hash: HashKind) -> Option<Step<'_>>
-    ensures item { MatchOption result (NoItemAt hash Target bytes.now) (λ p. ItemAt hash Target bytes.now (item_of p.0) p.1.now (next_of p.2)) }
+    ensures item { MatchOption result (NoItemAt hash Target bytes.now)
+        (λ p. ItemAt hash Target bytes.now (item_of p.0) p.1.now (next_of p.2)) }
     ensures kind { IfSome result (λ p. HasKind hash (Some (Ok p.0))) }
 {
     let (text, rest) = id_line(bytes, b"object ", hash)?;
@@ -54,7 +55,9 @@ fn target_item(bytes: &[u8], hash: HashKind) -> Option<Step<'_>>
 }
 
 fn kind_item(bytes: &[u8]) -> Option<Step<'_>>
-    ensures item { (hash : HashKind) → MatchOption result (NoItemAt hash TargetKind bytes.now) (λ p. ItemAt hash TargetKind bytes.now (item_of p.0) p.1.now (next_of p.2)) }
+    ensures item { (hash : HashKind)
+        → MatchOption result (NoItemAt hash TargetKind bytes.now)
+        (λ p. ItemAt hash TargetKind bytes.now (item_of p.0) p.1.now (next_of p.2)) }
     ensures kind { (hash : HashKind) → IfSome result (λ p. HasKind hash (Some (Ok p.0))) }
 {
     let (kind, rest) = type_line(bytes)?;
@@ -62,7 +65,9 @@ fn kind_item(bytes: &[u8]) -> Option<Step<'_>>
 }
 
 fn name_item(bytes: &[u8]) -> Option<Step<'_>>
-    ensures item { (hash : HashKind) → MatchOption result (NoItemAt hash Name bytes.now) (λ p. ItemAt hash Name bytes.now (item_of p.0) p.1.now (next_of p.2)) }
+    ensures item { (hash : HashKind)
+        → MatchOption result (NoItemAt hash Name bytes.now)
+        (λ p. ItemAt hash Name bytes.now (item_of p.0) p.1.now (next_of p.2)) }
     ensures kind { (hash : HashKind) → IfSome result (λ p. HasKind hash (Some (Ok p.0))) }
 {
     let (name, rest) = name_line(bytes)?;
@@ -70,7 +75,9 @@ fn name_item(bytes: &[u8]) -> Option<Step<'_>>
 }
 
 fn tagger_or_body(bytes: &[u8]) -> Option<Step<'_>>
-    ensures item { (hash : HashKind) → MatchOption result (NoItemAt hash Tagger bytes.now) (λ p. ItemAt hash Tagger bytes.now (item_of p.0) p.1.now (next_of p.2)) }
+    ensures item { (hash : HashKind)
+        → MatchOption result (NoItemAt hash Tagger bytes.now)
+        (λ p. ItemAt hash Tagger bytes.now (item_of p.0) p.1.now (next_of p.2)) }
     ensures kind { (hash : HashKind) → IfSome result (λ p. HasKind hash (Some (Ok p.0))) }
 {
     let Some((signature, rest)) = identity_line(bytes, b"tagger ") else {
@@ -88,7 +95,8 @@ fn body_item(bytes: &[u8]) -> Option<Step<'_>>
 }
 
 pub(crate) fn next_item(bytes: &[u8], stage: Stage, hash: HashKind) -> Option<Step<'_>>
-    ensures item { MatchOption result (NoItemAt hash (next_of stage) bytes.now) (λ p. ItemAt hash (next_of stage) bytes.now (item_of p.0) p.1.now (next_of p.2)) }
+    ensures item { MatchOption result (NoItemAt hash (next_of stage) bytes.now)
+        (λ p. ItemAt hash (next_of stage) bytes.now (item_of p.0) p.1.now (next_of p.2)) }
     ensures kind { IfSome result (λ p. HasKind hash (Some (Ok p.0))) }
 {
     match stage {

@@ -1,4 +1,4 @@
-// The lines of a tag, one function each. What they give are slices of the bytes.
+//! The lines of a tag, one function each. What they give are slices of the bytes.
 ghost use Rattle.std.specs.Prelude.{◌≡◌, MatchOption, MatchBool};
 ghost use Rattle.std.specs.Option.{option_map};
 ghost use Rattle.bstr.specs.BStr.{bstr_bytes};
@@ -10,7 +10,7 @@ use crate::commit::{after, identity_line, split_line};
 use crate::{Kind, SignatureRef};
 use bstr::BStr;
 
-/// The kind in a line of its own, and what stands behind that line.
+/// The kind in a line of its own, and what follows that line.
 pub(crate) fn type_line(bytes: &[u8]) -> Option<(Kind, &[u8])>
     ensures { MatchOption result (IsNoTypeLine bytes.now) (λ p. HasTypeLine bytes.now p.0 p.1.now) }
 {
@@ -19,7 +19,7 @@ pub(crate) fn type_line(bytes: &[u8]) -> Option<(Kind, &[u8])>
     Some((kind, rest))
 }
 
-/// The tag's name in a line of its own, and what stands behind that line.
+/// The tag's name in a line of its own, and what follows that line.
 pub(crate) fn name_line(bytes: &[u8]) -> Option<(BStr<'_>, &[u8])>
     ensures { MatchOption result (IsNoNameLine bytes.now) (λ p. HasNameLine bytes.now (bstr_bytes p.0) p.1.now) }
 {
@@ -31,7 +31,7 @@ pub(crate) fn name_line(bytes: &[u8]) -> Option<(BStr<'_>, &[u8])>
     Some((BStr::new(name), rest))
 }
 
-/// The tagger where there is one, and what stands behind it.
+/// The tagger where there is one, and what follows it.
 pub(crate) fn tagger_line(bytes: &[u8]) -> (Option<SignatureRef<'_>>, &[u8])
     ensures { TakesTagger bytes.now (option_map identity_text result.0) result.1.now }
 {
@@ -90,9 +90,10 @@ fn split_signature(text: &[u8]) -> (BStr<'_>, Option<BStr<'_>>)
     (BStr::new(message), Some(BStr::new(signature)))
 }
 
-/// The message and the signature behind the headers.
+/// The message and the signature after the headers.
 pub(crate) fn body(bytes: &[u8]) -> Option<(BStr<'_>, Option<BStr<'_>>)>
-    ensures { MatchOption result (IsNoBody bytes.now) (λ p. SpellsBody bytes.now (bstr_bytes p.0) (option_map bstr_bytes p.1)) }
+    ensures { MatchOption result (IsNoBody bytes.now)
+        (λ p. SpellsBody bytes.now (bstr_bytes p.0) (option_map bstr_bytes p.1)) }
 {
     if bytes.is_empty() {
         return Some((BStr::new(bytes), None));

@@ -1,4 +1,4 @@
-// The bytes that spell tags.
+//! The bytes that spell tags.
 ghost use Rattle.std.specs.Prelude.{◌≡◌, ◌++◌, codes, true, false, OnOk, IfSome, IfNone};
 ghost use Rattle.gx_object.specs.Field.{first_unwritable};
 ghost use Rattle.gx_object.specs.Tag.{type_line, name_line, tagger_line, signature_bytes, tag_head_bytes, tag_bytes, is_writable_tag_name, is_writable_tagger, is_writable_tag};
@@ -66,6 +66,33 @@ fn push_tag(out: &mut Vec<u8>, tag: &Tag) -> Result<(), NoMemory>
     push_signature(out, &tag.signature)
 }
 
+// How many bytes a tag takes at most, to reserve them at once.
+fn room_of_tag(tag: &Tag) -> usize {
+    let lines = b"object \ntype commit\ntag \n\n".len() + tag.target.kind().len_in_hex();
+    lines
+        .saturating_add(tag.name.as_slice().len())
+        .saturating_add(room_of_tagger(&tag.tagger))
+        .saturating_add(tag.message.as_slice().len())
+        .saturating_add(room_of_signature(&tag.signature))
+}
+
+fn room_of_tagger(tagger: &Option<Signature>) -> usize {
+    match tagger {
+        None => 0,
+        Some(who) => b"tagger  <> -9223372036854775808 +9959\n"
+            .len()
+            .saturating_add(who.name.as_slice().len())
+            .saturating_add(who.email.as_slice().len()),
+    }
+}
+
+fn room_of_signature(signature: &Option<Bytes>) -> usize {
+    match signature {
+        None => 0,
+        Some(text) => text.as_slice().len(),
+    }
+}
+
 fn can_write_name(name: &[u8]) -> bool
     ensures { result ≡ is_writable_tag_name name.now }
 {
@@ -121,7 +148,7 @@ impl WriteTo for Tag {
         if let Some(field) = unwritable_field(self) {
             return Err(EncodeError::Unwritable { field });
         }
-        let mut out = Vec::with_capacity(alloc, self.message.as_slice().len())?;
+        let mut out = Vec::with_capacity(alloc, room_of_tag(self))?;
         push_tag(&mut out, self)?;
         Ok(Bytes::from_vec(out))
     }

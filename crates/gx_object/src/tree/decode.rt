@@ -1,13 +1,10 @@
-// Trees as their bytes spell them.
+//! Trees as their bytes spell them.
 ghost use Rattle.std.specs.Prelude.{◌≡◌, ℕ, List, map, IfOk, IfErr, IsErrOf, MatchOption, MatchResult};
 ghost use Rattle.std.specs.List.{AllByRecursion};
 ghost use Rattle.gx_hash.specs.HashKind.{IsOfKind};
 ghost use Rattle.gx_object.specs.declared.tree.Entry.{Entry};
 ghost use Rattle.gx_object.specs.declared.decode.DecodeError.TheVariants.{Decode, NoMemory as no_memory};
 ghost use Rattle.gx_object.specs.TreeSpelling.{entry_of, SpellsMode, SpellsEntry, SpellsTree, IsBadPlace, BeginsWithEntry};
-
-#[cfg(test)]
-mod tests;
 
 use crate::split::split_at_byte;
 use crate::{DecodeError, Entries, Entry, EntryMode, EntryRefs, Tree};
@@ -52,7 +49,8 @@ impl<'a> TreeRef<'a> {
         ensures spelled { IfOk result (λ tree. SpellsTree hash bytes.now (map entry_of tree.entries)) }
         ensures kind { IfOk result (λ tree. AllByRecursion (λ e. IsOfKind hash e.oid) tree.entries) }
         ensures bad_place { (at : ℕ) → IsErrOf result (DecodeError.Decode at) → IsBadPlace hash bytes.now at }
-        ensures only { (entries : List Entry) → SpellsTree hash bytes.now entries → MatchResult result (λ tree. map entry_of tree.entries ≡ entries) (λ error. error ≡ DecodeError.NoMemory) }
+        ensures only { (entries : List Entry) → SpellsTree hash bytes.now entries
+            → MatchResult result (λ tree. map entry_of tree.entries ≡ entries) (λ error. error ≡ DecodeError.NoMemory) }
     {
         let mut entries = Vec::new(alloc);
         let mut rest = bytes;
@@ -88,7 +86,9 @@ impl<'a> TreeRef<'a> {
 
 /// The entry that the bytes begin with, and what follows it.
 pub(crate) fn split_entry(hash: HashKind, bytes: &[u8]) -> Option<(EntryRef<'_>, &[u8])>
-    ensures { MatchOption result ((entry : Entry) (rest : List ℕ) → ¬ BeginsWithEntry hash bytes.now entry rest) (λ found. BeginsWithEntry hash bytes.now (entry_of found.0) found.1.now) }
+    ensures { MatchOption result ((entry : Entry) (rest : List ℕ)
+        → ¬ BeginsWithEntry hash bytes.now entry rest)
+        (λ found. BeginsWithEntry hash bytes.now (entry_of found.0) found.1.now) }
 {
     let (digits, rest) = split_at_byte(b' ', bytes)?;
     let mode = read_mode(digits)?;
@@ -106,7 +106,8 @@ pub(crate) fn split_entry(hash: HashKind, bytes: &[u8]) -> Option<(EntryRef<'_>,
 }
 
 fn read_mode(digits: &[u8]) -> Option<EntryMode>
-    ensures { MatchOption result ((mode : ℕ) → ¬ SpellsMode digits.now mode) (λ mode. SpellsMode digits.now mode.value) }
+    ensures { MatchOption result ((mode : ℕ)
+        → ¬ SpellsMode digits.now mode) (λ mode. SpellsMode digits.now mode.value) }
 {
     if digits.is_empty() || digits.len() > 6 {
         return None;

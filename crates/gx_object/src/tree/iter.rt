@@ -1,4 +1,4 @@
-// The entries of a tree, one by one.
+//! The entries of a tree, one by one.
 ghost use Rattle.std.specs.Prelude.{◌≡◌, ◌≤◌, length};
 
 use super::decode::split_entry;

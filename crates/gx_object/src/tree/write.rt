@@ -1,4 +1,4 @@
-// The bytes that spell trees.
+//! The bytes that spell trees.
 ghost use Rattle.std.specs.Prelude.{◌≡◌, ◌≤◌, ◌==◌, ◌++◌, not, true, false, drop, OnOk, IfOk, IsErrOf};
 ghost use Rattle.std.specs.List.{list_all};
 ghost use Rattle.gx_object.specs.Tree.{octal_of, entry_bytes, tree_bytes, is_writable_filename, is_writable_tree};
@@ -56,7 +56,7 @@ fn write_octal(digits: &mut [u8; 6], mode: u16) -> usize
     }
 }
 
-// How many bytes the entries take, or nearly so many, to reserve them at once.
+// About how many bytes the entries take, to reserve them at once.
 fn room_of(entries: &[Entry]) -> usize {
     let mut room: usize = 0;
     for entry in entries {

@@ -60,10 +60,11 @@ fn behind_ignorable(name: &[u8]) -> &[u8]
     rest
 }
 
-/// The name behind the ignorable code point with which it begins, if it begins with one.
+/// The name after the ignorable code point with which it begins, if it begins with one.
 fn without_one(name: &[u8]) -> Option<&[u8]>
     ensures { MatchOption result (SeesFirst name.now)
-        (λ behind. (without_ignorable name.now ≡ without_ignorable behind.now) × (length behind.now < length name.now)) }
+        (λ behind. (without_ignorable name.now ≡ without_ignorable behind.now)
+        × (length behind.now < length name.now)) }
 {
     match name {
         [a, b, c, rest @ ..] if is_ignorable(*a, *b, *c) => Some(rest),
@@ -82,7 +83,8 @@ fn is_ignorable(a: u8, b: u8, c: u8) -> bool
     }
 }
 
-/// Whether the name is the word, written in lower case, in any ASCII case, then any bytes of `fill`, and then ends or goes on with a
+/// Whether the name is the word, written in lower case, in any ASCII case, then any bytes of `fill`, and then ends or
+/// goes on with a
 /// byte of `cut`.
 #[tactic(auto, using(crate::proofs::SpellingLemmas::spells_same, crate::proofs::SpellingLemmas::spells_other))]
 pub(super) fn spells(name: Seen<'_>, word: &[u8], fill: &[u8], cut: &[u8]) -> bool

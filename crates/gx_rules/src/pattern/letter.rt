@@ -3,7 +3,7 @@ ghost use Rattle.std.specs.Prelude.{◌≡◌, ◌<◌, [], ◌∷◌, length, I
 ghost use Rattle.gx_rules.specs.Pattern.{letters, byte_of, is_bare};
 ghost use Rattle.gx_rules.specs.PatternReading.{letter_of};
 
-/// A byte of a pattern: bare, or behind a backslash that takes its meaning from it.
+/// A byte of a pattern: bare, or after a backslash that takes its meaning from it.
 #[derive(Clone, Copy)]
 pub(super) enum Letter {
     Bare(u8),
@@ -30,7 +30,7 @@ impl Letter {
     }
 }
 
-/// The first letter of the text, and the text behind it. A backslash that nothing follows is bare.
+/// The first letter of the text, and the text after it. A backslash that nothing follows is bare.
 #[tactic(auto, using(crate::proofs::PatternLetters::reading))]
 pub(super) fn read_letter(text: &[u8]) -> Option<(Letter, &[u8])>
     ensures letters { MatchOption result

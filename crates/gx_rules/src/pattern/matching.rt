@@ -26,12 +26,12 @@ pub(super) fn is_match<L: Ledger>(pattern: &[u8], name: &[u8], steps: &mut Steps
 }
 
 /// What is left of the pattern and of the name. Where the two do not match, the last star takes one byte more,
-/// and the walk goes on behind it; earlier stars have taken all that they need.
+/// and the walk goes on after it; earlier stars have taken all that they need.
 #[derive(Clone, Copy)]
 struct Walk<'a> {
     pattern: &'a [u8],
     name: &'a [u8],
-    /// The pattern behind the last star.
+    /// The pattern after the last star.
     behind_star: &'a [u8],
     /// The name from the byte on that the last star takes next; empty where there is no such byte, or no star.
     from_star: &'a [u8],
@@ -95,10 +95,11 @@ impl<'a> Walk<'a> {
         }
     }
 
-    /// Behind the last star, which takes one byte more.
+    /// After the last star, which takes one byte more.
     fn retry(self) -> Step<'a>
         ensures gives { ¬ IsMatch self.entry.pattern.now self.entry.name.now → StepGives self.entry result }
-        ensures spends { (before after : ℕ) → after ≤ before + length self.entry.pattern.now + 1 → Spends self.entry before after result }
+        ensures spends { (before after : ℕ) → after ≤ before + length self.entry.pattern.now + 1
+            → Spends self.entry before after result }
         ensures passes { IsAhead self.entry → Passes self.entry result }
     {
         match self.from_star.split_first() {
@@ -113,7 +114,7 @@ impl<'a> Walk<'a> {
     }
 }
 
-/// The text behind the piece that begins with the letter, if it is one that takes the byte alone.
+/// The text after the piece that begins with the letter, if it is one that takes the byte alone.
 #[tactic(auto, unfolding(crate::specs::PatternReading::taken))]
 fn take_piece<'a, L: Ledger>(
     letter: Letter,

@@ -7,7 +7,7 @@ use super::letter::{Letter, read_letter};
 use crate::Steps;
 use std::sync::ledger::Ledger;
 
-/// Whether the set takes the byte, and the text behind the set. The text begins behind the set's opening
+/// Whether the set takes the byte, and the text after the set. The text begins after the set's opening
 /// bracket; nothing is found where the set is not closed.
 #[tactic(auto, unfolding(crate::specs::PatternReading::set_takes))]
 pub(super) fn read_set<'a, L: Ledger>(
@@ -32,7 +32,7 @@ pub(super) fn read_set<'a, L: Ledger>(
     read_members(text, byte, steps)
 }
 
-/// Whether one of the members holds the byte, and the text behind the bracket that closes the set.
+/// Whether one of the members holds the byte, and the text after the bracket that closes the set.
 #[tactic(auto, using(crate::proofs::PatternSets::members))]
 fn read_members<'a, L: Ledger>(
     text: &'a [u8],
@@ -62,7 +62,7 @@ fn read_members<'a, L: Ledger>(
     }
 }
 
-/// Whether the member that begins with the letter holds the byte, and the text behind the member. That is one step.
+/// Whether the member that begins with the letter holds the byte, and the text after the member. That is one step.
 #[tactic(auto, unfolding(crate::specs::PatternReading::member_holds))]
 fn read_member<'a, L: Ledger>(
     first: Letter,
@@ -81,7 +81,7 @@ fn read_member<'a, L: Ledger>(
     }
 }
 
-/// The letter that a dash at the front of the text makes the last of a range, and the text behind it.
+/// The letter that a dash at the front of the text makes the last of a range, and the text after it.
 #[tactic(auto, unfolding(crate::specs::PatternReading::range_end))]
 fn read_range_end(text: &[u8]) -> Option<(Letter, &[u8])>
     ensures last { MatchOption result

@@ -1,5 +1,5 @@
 use Rattle.std.proofs.Common.{◌≡◌, ◌∙◌, sym, ap, subst}
-use Rattle.gx_object.specs.CommitNext.{CommitPlace, place_of}
+use Rattle.gx_object.specs.PartsRead.{PartsRead}
 use Rattle.gx_object.specs.CommitSpelling.{CommitText, commit_text, SpellsCommit}
 use Rattle.gix.proofs.BaseLemmas.{never_spelled, bad_commit, has_tree}
 use Rattle.gix.proofs.base.tree_of.Goals as goal
@@ -16,10 +16,10 @@ returns-in-Ok-tree_id-clause-ok g c =
     let text : CommitText = commit_text c.in-Ok.field-0 in
     let h = c.hash_kind-hash.result in
     let slice = c.as_slice.result.now in
-    let it = place_of c.from_bytes-in-Ok.result in
-    let place = c.from_bytes-in-Ok.ensures.place in
-    let bytes : it.bytes ≡ slice = ap (λ (p : CommitPlace). p.bytes) place ∙ c.as_slice-in-Ok.ensures ∙ sym c.as_slice.ensures in
-    let hash = ap (λ (p : CommitPlace). p.hash) place in
+    let it = c.from_bytes-in-Ok.result.text in
+    let same = c.from_bytes-in-Ok.ensures in
+    let bytes : it.bytes ≡ slice = ap (λ (p : PartsRead). p.text.bytes) same ∙ c.as_slice-in-Ok.ensures ∙ sym c.as_slice.ensures in
+    let hash = ap (λ (p : PartsRead). p.text.hash) same in
     let there : SpellsCommit it.hash it.bytes text =
     subst (λ b. SpellsCommit it.hash b text) (sym bytes) (subst (λ k. SpellsCommit k slice text) (sym hash) c.in-Ok.ensures.spelled) in
     has_tree s.content s.hash h c.args.commit c.in-Ok-tree_id.tree c.in_ok-bytes.bytes slice text c.in_ok-bytes.ensures.ok c.hash_kind-hash.ensures c.as_slice.ensures c.in-Ok.ensures.spelled (c.in-Ok-tree_id.ensures.commit text there) c.spellings_read_back.ensures.digits

@@ -1,6 +1,6 @@
 use Rattle.std.proofs.Common.{◌≡◌, ◌||◌, drop}
 use Rattle.gx_hash.specs.declared.oid.ObjectId.{ObjectId}
-use Rattle.gx_edit.specs.CheckPlain.{has_id}
+use Rattle.gx_hash.specs.ObjectIds.{has_id}
 use Rattle.gix.proofs.plan.ids_of.Given as goal
 
 abbrev pub invariant-loop-id : goal.invariant-loop-id

@@ -1,4 +1,4 @@
-use Rattle.gx_hash.proofs.DigestLemmas.{object_id_is_whole, object_id_digits, object_id_kind}
+use Rattle.gx_hash.specs.Laws.Digests.{object_id_is_whole, object_id_digits, object_id_kind}
 use Rattle.gx_hash.proofs.laws.object_id_is_whole.Goals as goal
 
 pub returns-clause-bytes : goal.returns-clause-bytes

@@ -1,6 +1,6 @@
 use Rattle.std.proofs.Common.{subst}
 use Rattle.hex.specs.Hex.{IsBytes}
-use Rattle.gx_hash.proofs.IdLaws.{id_from_hex-hex_of}
+use Rattle.gx_hash.specs.Laws.IdOrder.{id_from_hex-hex_of}
 use Rattle.gx_hash.proofs.laws.spellings_read_back.Goals as goal
 
 pub returns-clause-digits : goal.returns-clause-digits

@@ -1,5 +1,5 @@
 use Rattle.std.proofs.Common.{◌≤◌, sym, length}
-use Rattle.gx_hash.specs.Prefix.{room_for}
+use Rattle.gx_hash.specs.PrefixDigits.{room_for}
 use Rattle.gx_hash.proofs.PrefixLemmas.{padded_front}
 use Rattle.gx_hash.proofs.prefix.read_padded.Goals as goal
 

@@ -1,4 +1,4 @@
-use Rattle.gx_object.proofs.TreeFronts.{reads_once}
+use Rattle.gx_object.specs.Laws.TreeFronts.{reads_once}
 use Rattle.gx_object.proofs.TreeReadings.{reads_always}
 use Rattle.gx_object.proofs.laws.bytes_are_read_in_one_way.Goals as goal
 

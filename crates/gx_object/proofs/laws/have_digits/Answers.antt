@@ -1,7 +1,7 @@
 use Rattle.std.proofs.Common.{rules, subst}
 use Rattle.std.specs.List.{AllByRecursion}
 use Rattle.std.proofs.lemmas.List.{take_all}
-use Rattle.gx_object.specs.CommitSpelling.{HasOwnDigits}
+use Rattle.gx_hash.specs.IdDigits.{HasOwnDigits}
 use Rattle.gx_object.proofs.ReadBack.{own_next}
 use Rattle.gx_object.proofs.laws.have_digits.Goals as goal
 

@@ -1,5 +1,5 @@
 use Rattle.gx_object.proofs.ReadBack.{commit_back}
-use Rattle.gx_object.proofs.WrittenCommits.{commit_spelled, commit_copy}
+use Rattle.gx_object.specs.Laws.WrittenCommits.{commit_spelled, commit_copy}
 use Rattle.gx_object.proofs.laws.written_commit_is_read.Goals as goal
 
 pub returns-clause-spelled : goal.returns-clause-spelled

@@ -1,4 +1,4 @@
-use Rattle.gx_object.proofs.WrittenIdentities.{identity_spelled, time_spelled}
+use Rattle.gx_object.specs.Laws.WrittenIdentities.{identity_spelled, time_spelled}
 use Rattle.gx_object.proofs.laws.written_identity_is_read.Goals as goal
 
 pub returns-clause-spelled : goal.returns-clause-spelled

@@ -1,4 +1,4 @@
-use Rattle.gx_object.proofs.WrittenTrees.{written_tree}
+use Rattle.gx_object.specs.Laws.WrittenTrees.{written_tree}
 use Rattle.gx_object.proofs.laws.written_tree_is_read.Goals as goal
 
 pub returns : goal.returns

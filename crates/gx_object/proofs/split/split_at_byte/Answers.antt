@@ -1,4 +1,4 @@
-use Rattle.gx_object.proofs.Splits.{lacks_nowhere, lacks_in_front, cut_at}
+use Rattle.gx_object.specs.Laws.Splits.{lacks_nowhere, lacks_in_front, cut_at}
 use Rattle.gx_object.proofs.split.split_at_byte.Goals as goal
 
 pub returns-in_err-at : goal.returns-in_err-at

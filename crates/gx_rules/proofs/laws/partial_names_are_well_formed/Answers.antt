@@ -1,4 +1,4 @@
-use Rattle.gx_rules.proofs.RefFormatLemmas.{well_formed, partial_again}
+use Rattle.gx_rules.specs.Laws.Formats.{well_formed, partial_again}
 use Rattle.gx_rules.proofs.laws.partial_names_are_well_formed.Goals as goal
 
 pub returns : goal.returns

@@ -1,6 +1,6 @@
 use Rattle.std.proofs.Common.{◌≡◌, ◌∙◌, sym, subst, arith, ℕ, List, ◌∷◌, ◌++◌, codes, inl, inr}
 use Rattle.gx_hash.specs.declared.kind.HashKind.{HashKind}
-use Rattle.gx_object.specs.CommitSpelling.{IsLowerHexDigit}
+use Rattle.gx_hash.specs.IdDigits.{IsLowerHexDigit}
 use Rattle.gx_rules.specs.Name.{IsFullName}
 use Rattle.gx_store.specs.declared.target.Target.TheVariants.{Object, Symbolic}
 use Rattle.gx_script.specs.Lines.{IsNoTarget}

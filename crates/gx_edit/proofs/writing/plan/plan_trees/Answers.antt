@@ -1,4 +1,4 @@
-use Rattle.std.proofs.Common.{◌≡◌, ◌+◌, ◌++◌, sym, ap, ◌∙◌, subst}
+use Rattle.std.proofs.Common.{◌≡◌, ◌++◌, sym, ap, ◌∙◌, subst}
 use Rattle.gx_object.specs.declared.tree.EntryMode.{EntryMode}
 use Rattle.gx_edit.specs.Planning.{made, with_entry}
 use Rattle.gx_object.specs.Tree.{entry_bytes}

@@ -1,5 +1,5 @@
 use Rattle.std.proofs.Common.{◌≡◌}
-use Rattle.gx_edit.specs.WritePlain.{has_zero}
+use Rattle.gx_edit.specs.PathList.{has_zero}
 use Rattle.gx_edit.proofs.writing.rows.has_zero.Given as goal
 
 -- no path before those that are left holds a zero byte

@@ -1,4 +1,4 @@
-use Rattle.gx_object.proofs.CommitPlace.{stuck_committer}
+use Rattle.gx_object.specs.Laws.CommitPlace.{stuck_committer}
 use Rattle.gx_object.proofs.commit.iter.committer_item.Goals as goal
 
 pub returns-in_err-signature-clause-item : goal.returns-in_err-signature-clause-item

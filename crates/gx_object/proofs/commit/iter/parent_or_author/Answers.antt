@@ -1,4 +1,4 @@
-use Rattle.gx_object.proofs.CommitPlace.{stuck_parents}
+use Rattle.gx_object.specs.Laws.CommitPlace.{stuck_parents}
 use Rattle.gx_object.proofs.commit.iter.parent_or_author.Goals as goal
 
 pub returns-in_err-signature-clause-item : goal.returns-in_err-signature-clause-item

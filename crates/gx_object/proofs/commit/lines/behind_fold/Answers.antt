@@ -1,4 +1,4 @@
-use Rattle.gx_object.proofs.LineLemmas.{no_fold, no_line_fold}
+use Rattle.gx_object.specs.Laws.LineLemmas.{no_fold, no_line_fold}
 use Rattle.gx_object.proofs.commit.lines.behind_fold.Goals as goal
 
 pub returns-in_err-line : goal.returns-in_err-line

@@ -1,5 +1,5 @@
 use Rattle.bstr.specs.BStr.{bstr_bytes}
-use Rattle.gx_object.proofs.LineLemmas.{no_header, header_at}
+use Rattle.gx_object.specs.Laws.LineLemmas.{no_header, header_at}
 use Rattle.gx_object.proofs.commit.lines.header.Goals as goal
 
 pub returns-in_err-name : goal.returns-in_err-name

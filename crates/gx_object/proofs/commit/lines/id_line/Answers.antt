@@ -1,4 +1,4 @@
-use Rattle.gx_object.proofs.LineLemmas.{not_behind, no_id}
+use Rattle.gx_object.specs.Laws.LineLemmas.{not_behind, no_id}
 use Rattle.gx_object.proofs.commit.lines.id_line.Goals as goal
 
 pub returns-in_err-text : goal.returns-in_err-text

@@ -1,8 +1,7 @@
-use Rattle.gx_object.proofs.HexIds.{named_is_read, named_is}
 use Rattle.gx_object.proofs.commit.lines.id_of.Goals as goal
 
-pub unwrap-requires : goal.unwrap-requires
-unwrap-requires c = named_is_read c.args.hash c.args.text.now c.from_hex.result c.requires c.from_hex.ensures
+pub from_digits-requires : goal.from_digits-requires
+from_digits-requires c = (c.args.hash, c.requires)
 
-pub returns-clause-digits : goal.returns-clause-digits
-returns-clause-digits c = (named_is c.args.hash c.args.text.now c.from_hex.result c.unwrap.result c.requires c.from_hex.ensures c.unwrap.ensures).0
+pub returns-clause-kind : goal.returns-clause-kind
+returns-clause-kind c = c.from_digits.ensures.kind c.args.hash c.requires

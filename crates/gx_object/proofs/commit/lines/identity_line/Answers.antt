@@ -1,5 +1,5 @@
 use Rattle.gx_object.specs.IdentitySpelling.{identity_text}
-use Rattle.gx_object.proofs.LineLemmas.{not_behind, no_identity, identity_at}
+use Rattle.gx_object.specs.Laws.LineLemmas.{not_behind, no_identity, identity_at}
 use Rattle.gx_object.proofs.commit.lines.identity_line.Goals as goal
 
 pub returns-in_err-after : goal.returns-in_err-after

@@ -1,4 +1,4 @@
-use Rattle.gx_object.proofs.LineLemmas.{folds_more}
+use Rattle.gx_object.specs.Laws.LineLemmas.{folds_more}
 use Rattle.gx_object.proofs.commit.lines.skip_folds.Goals as goal
 
 pub loop-more-preserved : goal.loop-more-preserved

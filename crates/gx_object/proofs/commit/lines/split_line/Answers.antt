@@ -1,4 +1,4 @@
-use Rattle.gx_object.proofs.LineLemmas.{no_line, line_at}
+use Rattle.gx_object.specs.Laws.LineLemmas.{no_line, line_at}
 use Rattle.gx_object.proofs.commit.lines.split_line.Goals as goal
 
 pub returns-in_err-at : goal.returns-in_err-at

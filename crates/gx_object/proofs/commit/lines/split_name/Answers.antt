@@ -1,5 +1,5 @@
 use Rattle.std.proofs.Common.{arith}
-use Rattle.gx_object.proofs.LineLemmas.{no_name, name_at}
+use Rattle.gx_object.specs.Laws.LineLemmas.{no_name, name_at}
 use Rattle.gx_object.proofs.commit.lines.split_name.Goals as goal
 
 pub returns-in_err-at : goal.returns-in_err-at

@@ -4,7 +4,7 @@ use Rattle.bstr.specs.BStr.{bstr_bytes}
 use Rattle.gx_hash.specs.HashKind.{IsOfKind}
 use Rattle.gx_hash.specs.ObjectId.{hex_of}
 use Rattle.gx_hash.specs.declared.kind.HashKind.{HashKind}
-use Rattle.gx_object.specs.CommitSpelling.{IsHexId}
+use Rattle.gx_hash.specs.IdDigits.{IsHexId}
 use Rattle.gx_object.proofs.commit.owned.own_ids.Given as goal
 
 -- the ids so far are read, and of the kind of their digits

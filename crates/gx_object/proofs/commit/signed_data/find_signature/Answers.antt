@@ -1,7 +1,8 @@
 use Rattle.std.proofs.lemmas.Result.{err_from_is_err_and}
 use Rattle.bstr.specs.BStr.{bstr_bytes}
 use Rattle.gx_object.specs.IdentitySpelling.{identity_text}
-use Rattle.gx_object.specs.CommitNext.{place_of}
+use Rattle.std.proofs.Common.{refl}
+use Rattle.gx_object.specs.PartsRead.{object_text}
 use Rattle.gx_object.specs.CommitSpelling.{header_text}
 use Rattle.gx_object.proofs.MessageField.{wrong_none}
 use Rattle.gx_object.proofs.CommitSignatures.{over, none_refused, no_signature, a_signature}
@@ -10,12 +11,12 @@ use Rattle.gx_object.proofs.commit.signed_data.find_signature.Goals as goal
 pub returns-in_err-headers-clause-refused : goal.returns-in_err-headers-clause-refused
 returns-in_err-headers-clause-refused c =
     let p = err_from_is_err_and c.from_residual-in_err-headers.result c.from_residual-in_err-headers.ensures.1 in
-    rw (p.1, p.2) (none_refused (place_of c.from_bytes-commit.result) c.args.hash c.args.bytes.now c.in_err-headers.field-0.0 (over c.from_bytes-commit.ensures.place) (wrong_none (place_of c.from_bytes-commit.result) c.in_err-headers.field-0.0 c.in_err-headers.ensures))
+    rw (p.1, p.2) (none_refused (object_text c.args.hash c.args.bytes.now) c.args.hash c.args.bytes.now c.in_err-headers.field-0.0 (refl, refl) (wrong_none (object_text c.args.hash c.args.bytes.now) c.in_err-headers.field-0.0 c.in_err-headers.ensures))
 
 pub returns-in_default-clause-found : goal.returns-in_default-clause-found
-returns-in_default-clause-found c = no_signature (place_of c.from_bytes-commit.result) c.args.hash c.args.bytes.now (identity_text c.in_ok-headers.field-0-0) c.in_ok-headers.headers.now (bstr_bytes c.in_ok-message.field-0) (over c.from_bytes-commit.ensures.place) c.in_ok-message.ensures.found c.in_ok-headers.ensures (rw c.name_of_signature.ensures at c.in_default.ensures)
+returns-in_default-clause-found c = no_signature (object_text c.args.hash c.args.bytes.now) c.args.hash c.args.bytes.now (identity_text c.in_ok-headers.field-0-0) c.in_ok-headers.headers.now (bstr_bytes c.in_ok-read_message.field-0) (refl, refl) c.in_ok-read_message.ensures c.in_ok-headers.ensures (rw c.name_of_signature.ensures at c.in_default.ensures)
 
 pub returns-clause-found : goal.returns-clause-found
 returns-clause-found c =
-    a_signature (place_of c.from_bytes-commit.result) c.args.hash c.args.bytes.now (identity_text c.in_ok-headers.field-0-0) c.in_ok-headers.headers.now (bstr_bytes c.in_ok-message.field-0) (header_text c.in-Some.header) c.in-Some.lines.now c.in-Some.rest.now c.without_header.result
-    (over c.from_bytes-commit.ensures.place) c.in_ok-message.ensures.found c.in_ok-headers.ensures (rw c.name_of_signature.ensures at c.in-Some.ensures) c.without_header.ensures
+    a_signature (object_text c.args.hash c.args.bytes.now) c.args.hash c.args.bytes.now (identity_text c.in_ok-headers.field-0-0) c.in_ok-headers.headers.now (bstr_bytes c.in_ok-read_message.field-0) (header_text c.in-Some.header) c.in-Some.lines.now c.in-Some.rest.now c.without_header.result
+    (refl, refl) c.in_ok-read_message.ensures c.in_ok-headers.ensures (rw c.name_of_signature.ensures at c.in-Some.ensures) c.without_header.ensures

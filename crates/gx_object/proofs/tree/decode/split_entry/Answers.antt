@@ -1,6 +1,6 @@
 use Rattle.std.proofs.Common.{◌≡◌, sym, length, arith}
 use Rattle.std.proofs.lemmas.List.{take-append-drop}
-use Rattle.gx_object.proofs.EntryCuts.{no_mode, no_zero, no_name, no_id, entry_found}
+use Rattle.gx_object.specs.Laws.EntryCuts.{no_mode, no_zero, no_name, no_id, entry_found}
 use Rattle.gx_object.proofs.tree.decode.split_entry.Goals as goal
 
 pub returns-in_err-mode : goal.returns-in_err-mode

@@ -1,5 +1,5 @@
 use Rattle.std.proofs.Common.{◌∙◌, ◌/◌, ◌-◌, arith}
-use Rattle.gx_object.proofs.Octal.{octal_start, octal_step, octal_fits, octal_left}
+use Rattle.gx_object.specs.Laws.Octal.{octal_start, octal_step, octal_fits, octal_left}
 use Rattle.gx_object.proofs.tree.write.write_octal.Goals as goal
 
 pub loop-rest-init : goal.loop-rest-init

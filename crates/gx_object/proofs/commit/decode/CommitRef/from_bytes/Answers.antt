@@ -1,4 +1,4 @@
-use Rattle.gx_object.proofs.OneCommit.{only_commit}
+use Rattle.gx_object.specs.Laws.OneCommit.{only_commit}
 use Rattle.gx_object.proofs.OwnedCommits.{commit_ids}
 use Rattle.gx_object.proofs.commit.decode.CommitRef.from_bytes.Goals as goal
 

@@ -1,5 +1,5 @@
-use Rattle.gx_object.proofs.OneCommit.{reads_commit}
+use Rattle.gx_object.proofs.CommitIteration.{begins}
 use Rattle.gx_object.proofs.commit.iter.CommitRefIter.from_bytes.Goals as goal
 
-pub returns-clause-commit : goal.returns-clause-commit
-returns-clause-commit c = reads_commit c.args.hash c.args.bytes.now
+pub invariant_of-result : goal.invariant_of-result
+invariant_of-result c other = begins c.args.hash c.args.bytes.now

@@ -1,7 +1,7 @@
 use Rattle.std.proofs.Common.{◌≡◌, ◌<◌, ◌-◌, length, arith}
 use Rattle.gx_object.proofs.TreeKinds.{tree_kind}
 use Rattle.gx_object.proofs.TreeReading.{reads_more, reads_all, reads_bad}
-use Rattle.gx_object.proofs.TreeFronts.{bad_place, tree_once}
+use Rattle.gx_object.specs.Laws.TreeFronts.{bad_place, tree_once}
 use Rattle.gx_object.proofs.tree.decode.TreeRef.from_bytes.Goals as goal
 
 pub returns-in_default-clause-bad_place : goal.returns-in_default-clause-bad_place

@@ -1,0 +1,6 @@
+mod DateLemmas
+mod DatesOnce
+mod IndexLemmas
+mod LineLemmas
+mod PersonaLemmas
+mod SearchLemmas

@@ -1,0 +1,10 @@
+pub mod Civil
+pub mod Date
+pub mod Form
+pub mod Identity
+pub mod Index
+pub mod LineViews
+pub mod Mailmap
+pub mod MailmapLine
+pub mod Names
+pub mod Persona

@@ -1,7 +1,0 @@
-use Rattle.std.proofs.Common.{ap, ◌∙◌}
-use Rattle.gx_edit.specs.CheckPlain.{has_id}
-use Rattle.gx_edit.proofs.NeededLemmas.{found_is}
-use Rattle.gx_edit.proofs.object_ids.ObjectIds.contains.Goals as goal
-
-pub returns : goal.returns
-returns c = c.contains.ensures ∙ found_is c.self.inside.set.keys c.args.id.now ∙ ap (λ ids. has_id ids c.args.id.now) c.self.view_is

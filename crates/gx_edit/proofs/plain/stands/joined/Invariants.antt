@@ -1,6 +1,0 @@
-use Rattle.std.proofs.Common.{◌≡◌, take}
-use Rattle.gx_edit.proofs.plain.stands.joined.Given as goal
-
--- the first names are copied
-abbrev pub invariant-loop-name : goal.invariant-loop-name
-invariant-loop-name l = l.path.items ≡ take l.name-index l.above

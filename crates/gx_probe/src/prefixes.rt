@@ -1,0 +1,67 @@
+//! Rows on prefixes of ids.
+
+use crate::answers::{at, id_of, numbered, order, push_id, shown, size_of};
+use crate::error::ProbeError;
+use gx_hash::{Prefix, PrefixError};
+use std::alloc::Global;
+
+/// The answers to rows on prefixes of ids.
+pub fn answer(
+    alloc: Global,
+    call: &[u8],
+    fields: &[Vec<u8>],
+) -> Result<Option<Vec<u8>>, ProbeError> {
+    match (call, fields) {
+        (b"prefix", [digits]) => Ok(Some(outcome(alloc, Prefix::from_hex(digits))?)),
+        (b"prefix_text", [digits]) => Ok(Some(text(alloc, Prefix::from_hex(digits))?)),
+        (b"prefix_of", [id, len]) => answer_prefix_of(alloc, id, len),
+        (b"whole_prefix", [id]) => answer_whole_prefix(alloc, id),
+        (b"compare_prefix", [digits, id]) => answer_order(alloc, digits, id),
+        _ => Ok(None),
+    }
+}
+
+/// How many digits the prefix has, and the least id that begins with them.
+fn outcome(alloc: Global, found: Result<Prefix, PrefixError>) -> Result<Vec<u8>, ProbeError> {
+    match found {
+        Ok(prefix) => len_and_id(alloc, &prefix),
+        Err(PrefixError::TooLong { hex_len }) => numbered(alloc, "too-long", hex_len),
+        Err(PrefixError::TooShort { hex_len }) => numbered(alloc, "too-short", hex_len),
+        Err(PrefixError::BadDigit { at: place }) => at(alloc, "bad-digit", place),
+    }
+}
+
+fn len_and_id(alloc: Global, prefix: &Prefix) -> Result<Vec<u8>, ProbeError> {
+    let mut answer = shown(alloc, &prefix.hex_len())?;
+    push_id(&mut answer, prefix.as_oid())?;
+    Ok(answer)
+}
+
+/// The prefix as it is printed, or the words on why it is none.
+fn text(alloc: Global, found: Result<Prefix, PrefixError>) -> Result<Vec<u8>, ProbeError> {
+    match found {
+        Ok(prefix) => shown(alloc, &prefix),
+        Err(error) => shown(alloc, &error),
+    }
+}
+
+fn answer_prefix_of(alloc: Global, id: &[u8], len: &[u8]) -> Result<Option<Vec<u8>>, ProbeError> {
+    match (id_of(id), size_of(len)) {
+        (Some(id), Some(len)) => Ok(Some(outcome(alloc, Prefix::new(&id, len))?)),
+        _ => Ok(None),
+    }
+}
+
+fn answer_whole_prefix(alloc: Global, id: &[u8]) -> Result<Option<Vec<u8>>, ProbeError> {
+    match id_of(id) {
+        Some(id) => Ok(Some(len_and_id(alloc, &Prefix::from(id))?)),
+        None => Ok(None),
+    }
+}
+
+fn answer_order(alloc: Global, digits: &[u8], id: &[u8]) -> Result<Option<Vec<u8>>, ProbeError> {
+    match (Prefix::from_hex(digits), id_of(id)) {
+        (Ok(prefix), Some(id)) => Ok(Some(order(alloc, prefix.cmp_oid(&id))?)),
+        _ => Ok(None),
+    }
+}

@@ -1,0 +1,19 @@
+//! Runs of scripts: each request of a script is run on a repository, and gets a reply.
+//!
+//! `run` takes a script from a source, runs it request by request over any store, and writes a line to a sink for each
+//! request. It answers the exit status of the program `gx`, which hands it real streams.
+#![tactic(auto)]
+
+mod executing;
+pub mod laws;
+mod refusal;
+mod reply;
+mod running;
+mod status;
+mod words;
+
+pub use executing::{ExecuteError, execute};
+pub use refusal::Refusal;
+pub use reply::{Reply, print_reply};
+pub use running::{run, run_limited};
+pub use words::{BadWords, Job, parse_words};

@@ -1,0 +1,91 @@
+// The canonical directory of what edits make of the empty tree. How it is built is not proved: it is tested at the end.
+ghost use Rattle.std.specs.Prelude.{IfOk, IfSome};
+ghost use Rattle.gx_edit.specs.PathMap.{no_paths, edited};
+ghost use Rattle.gx_edit.specs.CanonicalTree.{StandsFor};
+
+use crate::edits::edited;
+use crate::listing::{Line, Listing};
+use crate::names::components;
+use gx_edit::{Leaf, PathEdit};
+use gx_hash::{Bytes, HashKind, NoMemory};
+use std::alloc::Global;
+
+/// The canonical directory of what the edits make of the empty tree, where it has one. A path with a zero byte is in
+/// none.
+pub fn directory_of(
+    alloc: Global,
+    hash: HashKind,
+    edits: &[PathEdit],
+) -> Result<Option<Listing>, NoMemory>
+    ensures { IfOk result (λ found. IfSome found (λ listing. StandsFor listing (edited hash no_paths edits.now))) }
+{
+    let listing = built(alloc, hash, edits)?;
+    if listing.stands_for(alloc, hash, edits)? {
+        Ok(Some(listing))
+    } else {
+        Ok(None)
+    }
+}
+
+/// The directory of the leaves that are left. In the byte order of whole paths a directory's paths stand together, and
+/// where its name with a slash is sorted.
+fn built(alloc: Global, hash: HashKind, edits: &[PathEdit]) -> Result<Listing, NoMemory> {
+    let mut listing = Listing::end();
+    let mut last = None;
+    for path in sorted_paths(alloc, edits)?.iter().rev() {
+        if last == Some(path.as_slice()) {
+            continue;
+        }
+        let names = components(alloc, path)?;
+        if let Some(leaf) = edited(alloc, hash, edits, &names)? {
+            listing = listing.with_leaf(alloc, &names, leaf)?;
+        }
+        last = Some(path.as_slice());
+    }
+    Ok(listing)
+}
+
+fn sorted_paths(alloc: Global, edits: &[PathEdit]) -> Result<Vec<Vec<u8>>, NoMemory> {
+    let mut paths = Vec::new(alloc);
+    for edit in edits {
+        paths.push(Vec::from_slice(alloc, edit.path().as_slice())?)?;
+    }
+    paths.sort()?;
+    Ok(paths)
+}
+
+impl Listing {
+    /// The directory with a leaf before all others: in its first entry, where that is a directory of the path's first
+    /// name.
+    fn with_leaf(self, alloc: Global, path: &[Bytes], leaf: Leaf) -> Result<Listing, NoMemory> {
+        let Some((name, below)) = path.split_first() else {
+            return Ok(self);
+        };
+        if below.is_empty() {
+            return Listing::file(alloc, name.as_slice(), leaf, self);
+        }
+        let (inner, rest) = self.split_first(name);
+        let inner = inner.with_leaf(alloc, below, leaf)?;
+        Listing::sub(alloc, name.as_slice(), inner, rest)
+    }
+
+    /// What the first entry has below it, where it is a directory of that name, and the entries that follow.
+    fn split_first(self, name: &Bytes) -> (Listing, Listing) {
+        if !self.begins_with(name) {
+            return (Listing::end(), self);
+        }
+        match self.first {
+            Line::Sub(_first, inner, rest) => (Box::into_inner(inner), Box::into_inner(rest)),
+            Line::File(_first, _leaf, rest) => (Listing::end(), Box::into_inner(rest)),
+            Line::End => (Listing::end(), Listing::end()),
+        }
+    }
+
+    /// Whether the first entry is a directory of that name.
+    fn begins_with(&self, name: &Bytes) -> bool {
+        match &self.first {
+            Line::Sub(first, _, _) => first.as_slice() == name.as_slice(),
+            _ => false,
+        }
+    }
+}
