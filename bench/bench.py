@@ -19,18 +19,15 @@ import shutil
 import subprocess
 import sys
 import tempfile
-import time
 
-TOP = os.path.dirname(os.path.dirname(os.path.realpath(__file__)))
+from common import (Failed, best, built_program, ids_of_replies, measure_fast_import, megabytes, print_head, print_row, ratio,
+                    run, seconds)
+
 WHO = b"1700000000 3600 Bench Example\tbench@example.org"
 GIT_WHO = b"Bench Example <bench@example.org> 1700000000 +0100"
 MESSAGE = b"bench\n"
 PIECE = 1 << 20
 PARTS = ((1, 4), (1, 2), (1, 1))
-
-
-class Failed(Exception):
-    """A command that did not do what was asked, with what it said."""
 
 
 # ---- the scripts: each case yields files of commits, for the program and for Git
@@ -122,68 +119,6 @@ def write_stream(case, size, path):
 # ---- measures
 
 
-class Measure:
-    """What a run took: seconds of wall time and of the processor, and the peak of memory in bytes."""
-
-    def __init__(self, wall, user, system, peak):
-        self.wall = wall
-        self.user = user
-        self.system = system
-        self.peak = peak
-
-
-# Runs a command and writes what it took to the file descriptor that comes first. The peak of a command counts from the
-# size of the process that starts it, so that is not this one, but a fresh and small one.
-LAUNCHER = """
-import os, sys, time
-start = time.perf_counter()
-child = os.posix_spawnp(sys.argv[2], sys.argv[2:], os.environ)
-_, status, usage = os.wait4(child, 0)
-wall = time.perf_counter() - start
-took = (os.waitstatus_to_exitcode(status), wall, usage.ru_utime, usage.ru_stime, usage.ru_maxrss)
-os.write(int(sys.argv[1]), " ".join(map(str, took)).encode())
-"""
-
-
-def run(command, source, target, env=None):
-    """Runs a command from a file to a file."""
-    with open(source, "rb") as stdin, open(target, "wb") as stdout, \
-            tempfile.TemporaryFile() as stderr, tempfile.TemporaryFile() as took:
-        descriptor = took.fileno()
-        launcher = [sys.executable, "-I", "-S", "-c", LAUNCHER, str(descriptor), *command]
-        subprocess.run(launcher, check=True, stdin=stdin, stdout=stdout, stderr=stderr, env=env, pass_fds=[descriptor])
-        took.seek(0)
-        status, wall, user, system, peak = took.read().split()
-        stderr.seek(0)
-        said = stderr.read(2000).decode(errors="replace").strip()
-    if int(status) != 0:
-        raise Failed(f"{os.path.basename(command[0])} ended with {int(status)}{': ' + said if said else ''}")
-    scale = 1 if sys.platform == "darwin" else 1024
-    return Measure(float(wall), float(user), float(system), int(peak) * scale)
-
-
-def best(measures):
-    """The fastest run, with the least peak of all."""
-    fastest = min(measures, key=lambda m: m.wall)
-    return Measure(fastest.wall, fastest.user, fastest.system, min(m.peak for m in measures))
-
-
-def git_env():
-    env = {key: value for key, value in os.environ.items() if not key.startswith("GIT_")}
-    env.update(GIT_CONFIG_GLOBAL=os.devnull, GIT_CONFIG_NOSYSTEM="1")
-    return env
-
-
-def ids_of_replies(path):
-    ids = []
-    with open(path, "rb") as replies:
-        for line in replies:
-            if not line.startswith(b"ok "):
-                raise Failed(f"a reply is {line.decode(errors='replace').strip()!r}")
-            ids.append(line[3:].strip())
-    return ids
-
-
 def measure_program(program, case, size, folder, runs):
     script, replies = os.path.join(folder, "script"), os.path.join(folder, "replies")
     write_script(case, size, script)
@@ -194,45 +129,17 @@ def measure_program(program, case, size, folder, runs):
 
 
 def measure_git(git, case, size, folder, runs):
-    stream, printed = os.path.join(folder, "stream"), os.path.join(folder, "printed")
-    store = os.path.join(folder, "store.git")
-    env = git_env()
+    stream = os.path.join(folder, "stream")
     write_stream(case, size, stream)
-    measures = []
-    for _ in range(runs):
-        shutil.rmtree(store, ignore_errors=True)
-        subprocess.run([git, "init", "--quiet", "--bare", store], check=True, env=env)
-        command = [git, "-C", store, "-c", "core.compression=0", "-c", "pack.compression=0",
-                   "-c", "core.fsync=none", "fast-import", "--quiet"]
-        measures.append(run(command, stream, printed, env))
-    os.remove(stream)
-    listing = [git, "-C", store, "for-each-ref", "--sort=refname", "--format=%(objectname)", "refs/heads/"]
-    ids = subprocess.run(listing, check=True, env=env, stdout=subprocess.PIPE).stdout.split()
-    shutil.rmtree(store, ignore_errors=True)
-    return best(measures), ids
+    measured, store = measure_fast_import(git, stream, folder, runs)
+    return measured, store.ask("for-each-ref", "--sort=refname", "--format=%(objectname)", "refs/heads/")
 
 
 # ---- the report
 
 
-def megabytes(count):
-    return f"{count / (1 << 20):.1f}"
-
-
-def seconds(measure):
-    return f"{measure.wall:.3f}", f"{measure.user + measure.system:.3f}", megabytes(measure.peak)
-
-
-def ratio(ours, theirs):
-    return f"{ours / theirs:.2f}" if theirs > 0 else "-"
-
-
 HEAD = ("case", "size", "script MiB", "wall s", "cpu s", "peak MiB", "wall ns a unit",
         "git wall s", "git cpu s", "git peak MiB", "wall ratio", "cpu ratio", "peak ratio", "same ids")
-
-
-def print_row(cells):
-    print("| " + " | ".join(str(cell) for cell in cells) + " |", flush=True)
 
 
 def measure(program, git, case, size, runs):
@@ -271,15 +178,6 @@ def floor_of_peaks(folder):
     return run([true], os.devnull, os.path.join(folder, "printed")).peak
 
 
-def built_program():
-    """The executable, which ./gx builds first where it has to."""
-    try:
-        subprocess.run([os.path.join(TOP, "gx"), "--version"], check=True, stdin=subprocess.DEVNULL, stdout=subprocess.DEVNULL)
-    except (OSError, subprocess.CalledProcessError) as failure:
-        sys.exit(f"bench: the program can't be built or run: {failure}")
-    return os.path.join(TOP, "crates", "gx", "out", "gx")
-
-
 def arguments():
     parser = argparse.ArgumentParser(description="Measures the program beside git fast-import.")
     parser.add_argument("--runs", type=int, default=3, help="runs of each, of which the fastest counts (3)")
@@ -299,8 +197,7 @@ def main():
     if floor:
         print(f"A peak can't be measured below {megabytes(floor)} MiB.")
     print()
-    print_row(HEAD)
-    print_row(["---"] * len(HEAD))
+    print_head(HEAD)
     failures = []
     for case in CASES:
         if options.only and case.name not in options.only:

@@ -11,11 +11,9 @@ the input, copies that to an owned tree, and encodes it.
 import argparse
 import hashlib
 import os
-import subprocess
-import sys
 import tempfile
 
-from bench import TOP, best, megabytes, print_row, run
+from common import best, built_probe, columns, megabytes, print_head, print_row, run
 
 SIZES = (25_000, 50_000, 100_000, 200_000)
 HEAD = ("entries", "tree MiB", "count: wall s", "wall ns an entry", "peak MiB", "again: wall s", "wall ns an entry", "peak MiB")
@@ -25,16 +23,6 @@ def tree(size):
     """A tree of files, in their order, whose ids are the digests of their names."""
     names = (b"file-%07d.txt" % number for number in range(size))
     return b"".join(b"100644 %s\0%s" % (name, hashlib.sha1(name).digest()) for name in names)
-
-
-def built_probe():
-    """The executable that asks the libraries, which rt builds first where it has to."""
-    build = '. "$1/checks/build.sh"; top=$1; build gx_probe names'
-    try:
-        subprocess.run(["bash", "-c", build, "bench", TOP], check=True, stdin=subprocess.DEVNULL)
-    except (OSError, subprocess.CalledProcessError) as failure:
-        sys.exit(f"decode: the program can't be built: {failure}")
-    return os.path.join(TOP, "crates", "gx_probe", "out", "gx_probe")
 
 
 def measure(probe, size, runs):
@@ -53,18 +41,13 @@ def measure(probe, size, runs):
     print_row([f"{size:,}", megabytes(len(wanted)), *columns(count, size), *columns(again, size)])
 
 
-def columns(measured, size):
-    return f"{measured.wall:.3f}", f"{measured.wall / size * 1e9:.0f}", megabytes(measured.peak)
-
-
 def main():
     parser = argparse.ArgumentParser(description="Measures how trees are read.")
     parser.add_argument("--runs", type=int, default=5, help="runs of each, of which the fastest counts (5)")
     runs = parser.parse_args().runs
     probe = built_probe()
     print(f"Best of {runs} runs.\n")
-    print_row(HEAD)
-    print_row(["---"] * len(HEAD))
+    print_head(HEAD)
     for size in SIZES:
         measure(probe, size, runs)
 

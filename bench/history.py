@@ -12,11 +12,10 @@ import argparse
 import hashlib
 import os
 import shutil
-import subprocess
-import sys
 import tempfile
 
-from bench import Failed, best, built_program, git_env, ids_of_replies, print_row, ratio, run, seconds
+from common import (Failed, best, built_program, ids_of_replies, measure_fast_import, print_head, print_row, ratio, run,
+                    seconds)
 
 SIZES = (500, 2_000, 8_000)
 NAME, EMAIL = b"Gen", b"gen@example.com"
@@ -94,19 +93,6 @@ def write_inputs(size, script, stream):
     return parent
 
 
-def measure_git(git, stream, folder, runs):
-    store, printed = os.path.join(folder, "store.git"), os.path.join(folder, "printed")
-    measures = []
-    for _ in range(runs):
-        shutil.rmtree(store, ignore_errors=True)
-        subprocess.run([git, "init", "--quiet", "--bare", store], check=True, env=git_env())
-        command = [git, "-C", store, "-c", "core.compression=0", "-c", "pack.compression=0", "-c", "core.fsync=none",
-                   "fast-import", "--quiet"]
-        measures.append(run(command, stream, printed, git_env()))
-    last = subprocess.run([git, "-C", store, "rev-parse", "refs/heads/main"], check=True, env=git_env(), stdout=subprocess.PIPE)
-    return best(measures), last.stdout.strip()
-
-
 def measure(program, git, size, runs):
     with tempfile.TemporaryDirectory(prefix="gx-bench-") as folder:
         script, stream, replies = (os.path.join(folder, name) for name in ("script", "stream", "replies"))
@@ -117,8 +103,9 @@ def measure(program, git, size, runs):
             raise Failed(f"the last of {size} commits is {ids[-1].decode()}, and should be {last.decode()}")
         row = [f"{size:,}", f"{os.path.getsize(script) / (1 << 20):.1f}", *seconds(ours), f"{ours.wall / size * 1e6:.1f}"]
         if git:
-            theirs, found = measure_git(git, stream, folder, runs)
-            row += [*seconds(theirs), ratio(ours.wall, theirs.wall), "yes" if found == last else "NO"]
+            theirs, store = measure_fast_import(git, stream, folder, runs)
+            same = store.ask("rev-parse", "refs/heads/main") == [last]
+            row += [*seconds(theirs), ratio(ours.wall, theirs.wall), "yes" if same else "NO"]
     print_row(row)
 
 
@@ -129,8 +116,7 @@ def main():
     options = parser.parse_args()
     program, git = built_program(), shutil.which("git")
     print(f"Best of {options.runs} runs.\n")
-    print_row(HEAD)
-    print_row(["---"] * len(HEAD))
+    print_head(HEAD)
     for size in options.sizes:
         measure(program, git, size, options.runs)
 

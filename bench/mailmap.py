@@ -14,8 +14,7 @@ import subprocess
 import sys
 import tempfile
 
-from bench import best, git_env, megabytes, print_row, run
-from decode import built_probe
+from common import best, built_probe, git_env, megabytes, print_head, print_row, run
 
 SIZES = (25_000, 50_000, 100_000)
 HEAD = ("lines", "mailmap MiB", "wall s", "wall ns a line", "peak MiB", "wall s, git", "peak MiB, git")
@@ -65,8 +64,7 @@ def main():
     parser.add_argument("--runs", type=int, default=2, help="of each case the best of so many runs counts")
     runs = parser.parse_args().runs
     probe = built_probe()
-    print_row(HEAD)
-    print_row(["---"] * len(HEAD))
+    print_head(HEAD)
     for size in SIZES:
         ours, theirs, length = measure(probe, size, runs)
         print_row((f"{size:,}", megabytes(length), f"{ours.wall:.2f}", f"{ours.wall / size * 1e9:.0f}",

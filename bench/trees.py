@@ -14,11 +14,9 @@ import argparse
 import hashlib
 import os
 import shutil
-import subprocess
 import tempfile
 
-from bench import best, git_env, megabytes, print_row, run
-from decode import built_probe, columns
+from common import GitStore, best, built_probe, columns, megabytes, print_head, print_row, run
 
 SIZES = (25_000, 50_000, 100_000)
 HEAD = ("paths", "directories", "lines MiB", "write: wall s", "wall ns a path", "peak MiB", "and read: wall s", "wall ns a path", "peak MiB",
@@ -34,14 +32,12 @@ def lines(size):
 
 def measure_git(git, source, folder, runs):
     """What the index took, what its trees took, and the root."""
-    env, target, store = git_env(), os.path.join(folder, "root"), os.path.join(folder, "store.git")
-    settings = [git, "-C", store, "-c", "core.compression=0", "-c", "core.fsync=none"]
+    store, target = GitStore(git, folder), os.path.join(folder, "root")
     indexed, written = [], []
     for _ in range(runs):
-        shutil.rmtree(store, ignore_errors=True)
-        subprocess.run([git, "init", "--quiet", "--bare", store], check=True, env=env)
-        indexed.append(run([*settings, "update-index", "--index-info"], source, target, env))
-        written.append(run([*settings, "write-tree", "--missing-ok"], os.devnull, target, env))
+        store.renew()
+        indexed.append(store.measure(["update-index", "--index-info"], source, target))
+        written.append(store.measure(["write-tree", "--missing-ok"], os.devnull, target))
     with open(target, "rb") as printed:
         return best(indexed), best(written), printed.read()
 
@@ -73,8 +69,7 @@ def main():
     runs = parser.parse_args().runs
     probe, git = built_probe(), shutil.which("git")
     print(f"Best of {runs} runs.\n")
-    print_row(HEAD)
-    print_row(["---"] * len(HEAD))
+    print_head(HEAD)
     for size in SIZES:
         measure(probe, git, size, runs)
 

@@ -3,20 +3,8 @@
 set -uo pipefail
 . "$(dirname -- "$(readlink -f -- "${BASH_SOURCE[0]}")")/lib.sh"
 
-needs_git "no random script is compared with Git"
-command -v python3 >/dev/null || {
-    skips "python3 is not there, so no random script is compared with Git"
-    report
-    exit
-}
-
-# Each script counts by itself.
-python3 "$top/checks/against_git.py" "$top/gx" | tee "$scratch/said"
-if [[ $(tail -n 1 -- "$scratch/said") =~ ^([0-9]+)\ passed,\ ([0-9]+)\ failed$ ]]; then
-    passed=$((passed + BASH_REMATCH[1]))
-    failed=$((failed + BASH_REMATCH[2]))
-else
-    fails "the comparison with Git came to its end"
-fi
+needs_git "no random script is compared with it"
+needs python3 "no random script is made"
+counts "the comparison with Git" python3 "$top/checks/against_git.py" "$top/gx"
 
 report

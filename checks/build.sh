@@ -21,7 +21,7 @@ build() {
     local scratch crate=$top/crates/$1 program=$top/crates/$1/out/$1
     is_stale "$program" || return 0
     command -v rt >/dev/null || {
-        say "the program has to be built, and there is no command rt on the path (README.md, \"What is needed\")"
+        say "the program has to be built, and there is no command rt on the path (README.md, \"Run it\")"
         exit 127
     }
     scratch=$(mktemp -d)

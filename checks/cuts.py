@@ -1,5 +1,5 @@
 #!/usr/bin/env python3
-"""Prints rows of scripts that go wrong at one place: `script KIND TEXT [LIMIT] = ANSWER`, as src/scripts.rt of gx_probe reads.
+"""Prints rows of scripts that go wrong at one place: `script KIND TEXT [LIMIT] = ANSWER`, as src/scripts.rt of script_probe reads.
 
 A script of one request that is cut is truncated, in the line of its end: a part of a line is not judged. Within a limit
 below its size it is too long. A byte before it, or between two, makes a line wrong that no form has.

@@ -3,19 +3,7 @@
 set -uo pipefail
 . "$(dirname -- "$(readlink -f -- "${BASH_SOURCE[0]}")")/lib.sh"
 
-command -v python3 >/dev/null || {
-    skips "python3 is not there, so the rules of form are not checked"
-    report
-    exit
-}
-
-# Each rule counts by itself.
-python3 "$top/checks/house.py" | tee "$scratch/said"
-if [[ $(tail -n 1 -- "$scratch/said") =~ ^([0-9]+)\ passed,\ ([0-9]+)\ failed$ ]]; then
-    passed=$((passed + BASH_REMATCH[1]))
-    failed=$((failed + BASH_REMATCH[2]))
-else
-    fails "checks/house.py came to its end"
-fi
+needs python3 "the rules of form are not checked"
+counts checks/house.py python3 "$top/checks/house.py"
 
 report

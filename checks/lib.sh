@@ -46,21 +46,48 @@ runs() {
     same "$name prints what it must" "$wanted" "$scratch/printed"
 }
 
-# needs_git WHAT: ends the file of checks where there is no Git, saying what is left out. Else no settings of the machine
-# or of its user count any more.
-needs_git() {
-    if ! command -v git >/dev/null; then
-        skips "git is not there, so $1"
+# counts NAME COMMAND..: the command counts its checks by itself, and its last line is 'N passed, M failed'.
+counts() {
+    local name=$1
+    shift
+    "$@" | tee -- "$scratch/said"
+    if [[ $(tail -n 1 -- "$scratch/said") =~ ^([0-9]+)\ passed,\ ([0-9]+)\ failed$ ]]; then
+        passed=$((passed + BASH_REMATCH[1]))
+        failed=$((failed + BASH_REMATCH[2]))
+    else
+        fails "$name came to its end"
+    fi
+}
+
+# needs COMMAND WHAT: ends the file of checks where there is no such command, saying what is left out.
+needs() {
+    if ! command -v "$1" >/dev/null; then
+        skips "$1 is not there, so $2"
         report
         exit
     fi
+}
+
+# needs_git WHAT: needs Git, and lets no settings of the machine or of its user count any more.
+needs_git() {
+    needs git "$1"
     export GIT_CONFIG_GLOBAL=/dev/null GIT_CONFIG_NOSYSTEM=1
     unset GIT_WORK_TREE GIT_INDEX_FILE GIT_OBJECT_DIRECTORY GIT_DEFAULT_HASH
 }
 
-# Runs the program that asks the libraries.
+# Runs the program that asks the libraries of formats.
 probe() {
     build gx_probe names && "$top/crates/gx_probe/out/gx_probe" "$@"
+}
+
+# Runs the program that asks the libraries of stores.
+store_probe() {
+    build store_probe && "$top/crates/store_probe/out/store_probe"
+}
+
+# Runs the program that asks the library of scripts.
+script_probe() {
+    build script_probe && "$top/crates/script_probe/out/script_probe" "$@"
 }
 
 # Ends a file of checks. With a place to count in (checks/run gives one), the counts go there.

@@ -41,7 +41,7 @@ blocks() {
     printf 'edits 5 file a %s exec b %s link c %s file d "\\0" file e ""\n' "$full" "$full" "$full"
     printf 'malformed 30\n'
 } >"$scratch/wanted"
-blocks | probe script sha1 >"$scratch/found"
+blocks | script_probe sha1 >"$scratch/found"
 same "a request has blocks of 2^30 bytes, and not of one more" "$scratch/wanted" "$scratch/found"
 
 report

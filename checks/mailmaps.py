@@ -1,12 +1,13 @@
 #!/usr/bin/env python3
 """Rows of random mailmaps and dates, with what Git says of them.
 
-mailmaps.py FOLDER [SEED] writes rows into the folder, in the form that src/rows.rt of gx_probe describes: random mailmaps
+mailmaps.py FOLDER [SEED] writes rows into the folder, in the form that src/rows.rt of probe_rows describes: random mailmaps
 and identities with the answers of `git check-mailmap` (mailmaps.rows), and dates with the moments that `git commit-tree`
 writes for them (dates.rows). Only lines and dates that mean the same to both are made; docs/DIFFERENCES.md says which
 others there are.
 """
 
+import calendar
 import os
 import random
 import subprocess
@@ -15,7 +16,7 @@ import sys
 MAPS = 40
 LINES = 25
 IDENTITIES = 60
-DATES = 150
+DATES = 300
 
 NAMES = ["Jo", "jo", "Jo B", "JO B", "Max", "max", "Æsop", "æsop", "A>B", "[", "{"]
 EMAILS = ["jo@x", "JO@X", "Jo@x", "jo@y", "max@z.org", "MAX@Z.org", "a b@c", "æ@x", "Æ@x", "{@x", "[@x"]
@@ -85,20 +86,34 @@ def write_mailmaps(folder, rand):
                 rows.write(" ".join(words[:4]) + " = " + " ".join(words[5:]) + "\n")
 
 
+def day(rand):
+    """A day of the years that Git knows, often the last of its month, and often a leap day."""
+    year, month = rand.randrange(1971, 2100), rand.randrange(1, 13)
+    if rand.randrange(5) == 0:
+        year, month = rand.randrange(1972, 2100, 4), 2
+    last = calendar.monthrange(year, month)[1]
+    return year, month, rand.choice([last, rand.randrange(1, last + 1)])
+
+
+def offset(rand):
+    """An offset below a day. The bounds are tried often; Git takes one of a minute less than UTC for UTC."""
+    text = rand.choice("+-") + rand.choice(["0000", "1200", "1400", "2359"] + ["%02d%02d" % (rand.randrange(24), rand.randrange(60))] * 4)
+    return "+0000" if text == "-0001" else text
+
+
 def date(rand):
-    """A date of this century: Git knows no others, gives a day without a time the present one, and takes days that no
-    calendar has."""
-    year, month, day = rand.randrange(1971, 2099), rand.randrange(1, 13), rand.randrange(1, 29)
-    hours, minutes, seconds = rand.randrange(24), rand.randrange(60), rand.randrange(60)
-    offset = "%s%02d%02d" % (rand.choice("+-"), rand.randrange(13), rand.randrange(60))
-    clock = "%02d:%02d:%02d %s" % (hours, minutes, seconds, offset)
+    """A date that means the same to Git, which gives a day without a time the present one, and takes days that no calendar
+    has."""
+    year, month, number = day(rand)
+    clock = "%02d:%02d:%02d" % (rand.randrange(24), rand.randrange(60), rand.randrange(60))
+    clock = rand.choice(["00:00:00", "23:59:59", clock, clock]) + " " + offset(rand)
     form = rand.randrange(5)
     if form == 0:
-        return "%d %s" % (rand.randrange(10**8, 4 * 10**9), offset)
+        return "%d %s" % (rand.randrange(10**8, 4 * 10**9), offset(rand))
     if form in (1, 2):
-        return "%04d-%02d-%02d%s%s" % (year, month, day, " T"[form - 1], clock)
+        return "%04d-%02d-%02d%s%s" % (year, month, number, " T"[form - 1], clock)
     digits = "%02d" if form == 3 else "%d"
-    return "%s, %s %s %d %s" % (rand.choice(WEEKDAYS), digits % day, MONTHS[month - 1], year, clock)
+    return "%s, %s %s %d %s" % (rand.choice(WEEKDAYS), digits % number, MONTHS[month - 1], year, clock)
 
 
 def seconds_of(offset):

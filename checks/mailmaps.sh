@@ -5,11 +5,7 @@ set -uo pipefail
 . "$(dirname -- "$(readlink -f -- "${BASH_SOURCE[0]}")")/lib.sh"
 
 needs_git "no mailmap and no date is compared with it"
-command -v python3 >/dev/null || {
-    skips "python3 is not there, so no mailmap and no date is made"
-    report
-    exit
-}
+needs python3 "no mailmap and no date is made"
 
 # agrees WHAT FILE: the rows of the file are answered as Git answers them.
 agrees() {

@@ -1,11 +1,23 @@
 #!/usr/bin/env bash
-# Each row of rows/ is answered as it expects. A file of rows says where its values come from; src/rows.rt of gx_probe says
-# how a row is written. Each row counts as one check.
+# Each row of rows/, or of the files that are named, is answered as it expects. A file of rows says where its values come
+# from; src/rows.rt of probe_rows says how a row is written. Each row counts as one check.
 set -uo pipefail
 . "$(dirname -- "$(readlink -f -- "${BASH_SOURCE[0]}")")/lib.sh"
 
-build gx_probe names
-program=$top/crates/gx_probe/out/gx_probe
+# answer FILE: prints the rows of the file, with what the program of its subject answers.
+answer() {
+    case ${1##*/} in
+    chains.rows | directories.rows | edits.rows | logs.rows | path_maps.rows | runs.rows | store.rows)
+        store_probe <"$1"
+        ;;
+    script-*)
+        script_probe rows <"$1"
+        ;;
+    *)
+        probe rows <"$1"
+        ;;
+    esac
+}
 
 # compare FILE FOUND: prints the number of rows that are as expected, and of those that are not, and then the first of these.
 compare() {
@@ -21,8 +33,10 @@ compare() {
         }' "$2" "$1"
 }
 
-for file in "$top"/rows/*.rows; do
-    if ! "$program" rows <"$file" >"$scratch/found"; then
+files=("$@")
+((${#files[@]} > 0)) || files=("$top"/rows/*.rows)
+for file in "${files[@]}"; do
+    if ! answer "$file" >"$scratch/found"; then
         fails "${file#"$top"/} was not read to its end"
         continue
     fi

@@ -1,6 +1,6 @@
 #!/usr/bin/env bash
 # Each script of rows/scripts is answered as the files beside it say, over a store of its kind of ids; where it is malformed,
-# gx_probe tells in which line. The files are what make.py writes, whose ids Git's commands give.
+# script_probe tells in which line. The files are what make.py writes, whose ids Git's commands give.
 set -uo pipefail
 . "$(dirname -- "$(readlink -f -- "${BASH_SOURCE[0]}")")/lib.sh"
 
@@ -15,7 +15,7 @@ apply() {
 
 # tells KIND FILE: what is told last of a script.
 tells() {
-    probe script "$1" <"$2" | tail -n 1
+    script_probe "$1" <"$2" | tail -n 1
 }
 
 for script in "$scripts"/*.script; do

@@ -13,7 +13,7 @@ use Rattle.gix.specs.Trees.{has_gap, have_names}
 use Rattle.gix.specs.Causes.{IsFirstGap}
 use Rattle.gix.specs.Stages.{blob_ids}
 
--- the first edit that has a gap, behind edits that have none
+-- the first edit that has a gap, after edits that have none
 pub first_gap : (edits : List PathEdit) (i : ℕ) (edit : PathEdit) (path : List ℕ) → i < length edits → edit ≡ get_or edits i edit → have_names (take i edits) ≡ true → has_gap edit ≡ true → path ≡ path_of edit → IsFirstGap edits path
 first_gap edits i edit path lt there named gap is = record {
   before = take i edits;

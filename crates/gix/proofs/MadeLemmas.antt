@@ -1,4 +1,4 @@
--- A valid request has no cause to be refused, and where the store has no fault it is made, but for want of memory.
+-- A valid request has no cause to be refused, and where the store has no fault it is made, but for lack of memory.
 use Rattle.std.proofs.Common.{◌≡◌, ◌∙◌, sym, ap, refl, subst, arith, List, [], ◌∷◌, ℕ, suc, zero, Bool, true≢false, Option, Some, None, IsSome, Contains, ⊎_elim, ◌⊎◌}
 use Rattle.gx_object.specs.declared.encode.Field.{Field}
 use Rattle.gx_object.specs.declared.encode.Field.TheVariants as field

@@ -136,7 +136,7 @@ EndsAt r view name found = IfSome view.references (λ refs. (names : List (List 
 
 -- ---- causes
 
--- Why the machine refuses a commit: what the request holds, and what is stored, where that is told. Causes of a later stage come only where those before are passed: the base, the edits, the trees, the identities, the reference. A fault of the store and want of memory are none of its refusals.
+-- Why the machine refuses a commit: what the request holds, and what is stored, where that is told. Causes of a later stage come only where those before are passed: the base, the edits, the trees, the identities, the reference. A fault of the store and lack of memory are none of its refusals.
 abbrev pub Cause : Settings → CommitRequest → View → CommitEditsError → Type 0
 Cause settings r view (FindExistingObject id) = OfFirst r.parents (λ parent. IfSome view.content (λ content. IsAbsent view.hash content parent id))
 Cause settings r view (ObjectKind id actual) = OfFirst r.parents (λ parent. IfSome view.content (λ content. IsOther view.hash content parent id actual))
@@ -178,7 +178,7 @@ abbrev pub handed_on : StoreError → CommitEditsError
 handed_on store_error.NoMemory = NoMemory
 handed_on (store_error.Fault fault) = Store fault
 
--- Why a commit of edits is refused. Want of memory needs no cause.
+-- Why a commit of edits is refused. Lack of memory needs no cause.
 abbrev pub CommitEditsCauses : Settings → CommitRequest → StoreState → StoreState → CommitEditsError → Type 0
 CommitEditsCauses settings r old new (Store fault) = HasFault settings r old new fault
 CommitEditsCauses settings r old new NoMemory = Unit {0}

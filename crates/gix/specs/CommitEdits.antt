@@ -45,7 +45,7 @@ pub record Commits (settings : Settings) (r : CommitRequest) (old : StoreState) 
   pub moves : Moves old.hash r old.references way id changes
   pub becomes : Becomes (applied changes (all_stored (written_objects old.hash r directory) old)) new
 
--- The first of the objects were stored, in the order in which each comes behind all that it names, and nothing else is changed.
+-- The first of the objects were stored, in the order in which each comes after all that it names, and nothing else is changed.
 pub record Grows (objects : List (Kind × List ℕ)) (old new : StoreState) : Type 0 where
   pub first : List (Kind × List ℕ)
   pub rest : List (Kind × List ℕ)
@@ -70,7 +70,7 @@ pub record IsTornBy (settings : Settings) (r : CommitRequest) (old new : StoreSt
   pub becomes : Becomes (all_stored (written_objects old.hash r directory) old) stored
   pub torn : AfterFault changes stored new
 
--- A fault of a read changes nothing; one of a write comes behind some first objects, or tears the reference.
+-- A fault of a read changes nothing; one of a write comes after some first objects, or tears the reference.
 abbrev pub LeavesFault : Settings → CommitRequest → StoreState → StoreState → What → Type 0
 LeavesFault settings r old new what.Write = HasBegun settings r old new ⊎ IsTornBy settings r old new
 LeavesFault settings r old new fault = new ≡ old

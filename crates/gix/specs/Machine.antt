@@ -55,7 +55,7 @@ pub record Refuses (settings : Settings) (r : CommitRequest) (old : State) (refu
   pub cause : Cause settings r (whole old) refusal
   pub same : new ≡ old
 
--- an answer of the machine, and no fault of a store or want of memory
+-- an answer of the machine, and no fault of a store or lack of memory
 abbrev pub IsRefusal : CommitEditsError → Type 0
 IsRefusal (Store fault) = ⊥
 IsRefusal NoMemory = ⊥

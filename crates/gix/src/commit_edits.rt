@@ -30,8 +30,8 @@ impl<S: Store> Repository<S> {
     /// Makes a commit of the first parent's tree, or of the empty one, after the edits in their order, and lets the end
     /// of the reference's chain name it.
     ///
-    /// Objects are stored before the reference is moved, each behind all that it names. Where the store tells what it
-    /// holds, an answer that is no fault and no want of memory is one that the repository machine may give. A
+    /// Objects are stored before the reference is moved, each after all that it names. Where the store tells what it
+    /// holds, an answer that is no fault and no lack of memory is one that the repository machine may give. A
     /// submodule's id must not be null.
     ///
     /// # Errors

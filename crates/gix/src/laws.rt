@@ -32,7 +32,7 @@ pub fn valid_is_admitted()
         → IsValidCommit settings r state → Makes r (whole state) directory → (way : Way) × IsAdmitted settings r (whole state) directory way }
 {}
 
-/// A valid request is refused for want of memory alone, where a store tells its state, can be read, and counts no fault.
+/// A valid request is refused for lack of memory alone, where a store tells its state, can be read, and counts no fault.
 pub fn valid_is_made()
     ensures { (settings : Settings) (r : CommitRequest) (state : State) (old new : StoreState) (e : CommitEditsError)
         → view_of old ≡ whole state → IsFaultless old new → IsValidCommit settings r state → CommitEditsCauses settings r old new e → e ≡ no_memory }

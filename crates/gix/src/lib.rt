@@ -2,7 +2,7 @@
 //!
 //! A call is answered in one of two ways. Either all was done, and the clause for Ok says what the store then
 //! means; or an error tells why not, and what was left behind. Whatever an error leaves, the call lets no
-//! reference name a commit before that is stored: objects come first, each behind all that it names.
+//! reference name a commit before that is stored: objects come first, each after all that it names.
 //!
 //! A commit goes through five stages: its base, its edits, its trees, its identities and its reference. All of them
 //! are passed before the first write, so that a request with a fault of its own leaves nothing behind.

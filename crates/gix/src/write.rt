@@ -1,4 +1,4 @@
-//! What a commit writes, each object behind all that it names: blobs, trees, the commit.
+//! What a commit writes, each object after all that it names: blobs, trees, the commit.
 
 ghost use Rattle.std.specs.Prelude.{◌≡◌, ◌++◌, ◌∷◌, [], ℕ, ◌≤◌, false, List, length, take, IfOk, OnOk, OnErr};
 ghost use Rattle.gx_hash.specs.declared.oid.ObjectId.{ObjectId};

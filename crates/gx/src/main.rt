@@ -14,7 +14,7 @@ use std::process::ExitCode;
 use std::time::{SystemTime, UNIX_EPOCH};
 
 /// What `--help` prints, and standard error hears of a faulty command line.
-const USAGE: &str = "usage: gx_tool --memory|--memory-sha256 apply < SCRIPT
+const USAGE: &str = "usage: gx --memory|--memory-sha256 apply < SCRIPT
 
 Applies a script of requests from standard input to an empty repository in memory,
 and writes a reply for each to standard output.
@@ -27,7 +27,8 @@ and writes a reply for each to standard output.
 
 status  0  each request of the script got an `ok`
         1  all requests of the script were replied to, one or more with `no`
-        2  the script is malformed behind the requests that were replied to
+        2  the script is malformed after the requests that were replied to:
+           `script_probe sha1 < SCRIPT` names the line
         3  reading the script failed
         4  writing the replies failed
         5  out of memory
@@ -37,7 +38,7 @@ status  0  each request of the script got an `ok`
         9  not a repository
 ";
 
-const VERSION: &str = "gx_tool 0.1.0";
+const VERSION: &str = "gx 0.1.0";
 
 /// The statuses that `main` gives itself; the first two are a run's as well.
 const OUT_OF_MEMORY: u8 = 5;

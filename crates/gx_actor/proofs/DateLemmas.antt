@@ -1,13 +1,14 @@
 -- How dates are read.
-use Rattle.std.proofs.Common.{◌≡◌, ◌⊎◌, ◌+◌, ◌∙◌, ℕ, List, codes, take, drop, Option, Some, None, Result, Ok, Err, MatchOption, IsTrue, sym, subst, inl, inr}
+use Rattle.std.proofs.Common.{◌≡◌, ◌⊎◌, ◌+◌, ◌∙◌, ℕ, ℤ, List, codes, take, drop, Option, Some, None, Result, Ok, Err, MatchOption, IsTrue, sym, ap, subst, inl, inr}
 use Rattle.std.specs.Option.{ok_or}
 use Rattle.std.specs.Result.{MatchResult, result_ok}
 use Rattle.std.specs.Str.{bytes_eq}
 use Rattle.gx_object.specs.declared.signature.Time.{Time}
 use Rattle.gx_object.specs.declared.signature.decode.BadTime.{BadTime}
-use Rattle.gx_object.specs.TimeSpelling.{SpellsTime}
+use Rattle.gx_object.specs.TimeSpelling.{SpellsOffset, SpellsTime}
 use Rattle.gx_actor.specs.declared.date.BadDate.{BadDate}
-use Rattle.gx_actor.specs.Civil.{IsTimeAt}
+use Rattle.gx_actor.specs.declared.date.civil.Civil.{Civil}
+use Rattle.gx_actor.specs.Civil.{Exists, IsTimeAt, seconds_at}
 use Rattle.gx_actor.specs.Names.{is_weekday, month_named}
 use Rattle.gx_actor.specs.Date.SpellsDate.{Now, Raw, IsoDay, IsoTime, MailTime}
 use Rattle.gx_actor.specs.Date.{SpellsDate, SpellsIsoDay, SpellsIsoTime, SpellsMailTime, IsMailTime, is_iso_time, iso_time, mail_civil}
@@ -16,6 +17,15 @@ use Rattle.gx_actor.specs.Date.{SpellsDate, SpellsIsoDay, SpellsIsoTime, SpellsM
 pub raw_read : (text : List ℕ) (r : Result Time BadTime) → MatchResult r (SpellsTime text) (λ _. (time : Time) → ¬ SpellsTime text time) → MatchOption (result_ok r) ((time : Time) → ¬ SpellsTime text time) (SpellsTime text)
 raw_read text (Ok time) read = read
 raw_read text (Err e) read = read
+
+-- the moment at an offset
+pub at_offset : (civil : Civil) (written : List ℕ) (offset stated : ℤ) (r : Option Time) → stated ≡ offset → SpellsOffset written offset → MatchOption r (¬ Exists civil) (λ time. Exists civil × (time.seconds ≡ seconds_at civil stated) × (time.offset ≡ stated)) → MatchOption r ((time : Time) → ¬ IsTimeAt civil written time) (IsTimeAt civil written)
+at_offset civil written offset stated None same spelled none = λ time at. none at.exists
+at_offset civil written offset stated (Some time) same spelled some = record {
+  exists = some.0;
+  offset = subst (SpellsOffset written) (sym (some.2 ∙ same)) spelled;
+  seconds = some.1 ∙ ap (seconds_at civil) (sym some.2);
+}
 
 pub iso_read : (text : List ℕ) (r : Option Time) → IsTrue (is_iso_time text) → MatchOption r ((time : Time) → ¬ IsTimeAt (iso_time text) (drop 20 text) time) (IsTimeAt (iso_time text) (drop 20 text)) → MatchOption r ((time : Time) → ¬ SpellsIsoTime text time) (SpellsIsoTime text)
 iso_read text None form none = λ time spelled. none time spelled.moment

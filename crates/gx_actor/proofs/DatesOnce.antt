@@ -11,10 +11,11 @@ use Rattle.std.proofs.lemmas.Str.Parse.{digit_at as digit_within}
 use Rattle.gx_object.specs.declared.signature.Time.{Time}
 use Rattle.gx_object.specs.TimeSpelling.{SpellsSeconds, SpellsOffset, SpellsTime}
 use Rattle.gx_actor.specs.declared.date.civil.Civil.{Civil}
-use Rattle.gx_actor.specs.Civil.{IsTimeAt}
+use Rattle.gx_actor.specs.Civil.{IsTimeAt, seconds_at}
 use Rattle.gx_actor.specs.Form.{begins_in_form, fits_letter, digit_at, two_digits_at}
 use Rattle.gx_actor.specs.Date.SpellsDate.{Now, Raw, IsoDay, IsoTime, MailTime}
 use Rattle.gx_actor.specs.Date.{SpellsDate, SpellsIsoDay, SpellsIsoTime, SpellsMailTime, SpellsTwoDigitDay, SpellsOneDigitDay, IsMailTime, iso_time, mail_civil}
+use Rattle.gx_actor.proofs.OffsetLemmas.{offset_once}
 use Rattle.gx_actor.proofs.SearchLemmas.{is_equal}
 
 -- each letter of a text fits the one of its form
@@ -38,7 +39,7 @@ form_letter form text k begins within =
 now_length : (text : List ℕ) → IsTrue (bytes_eq text (codes "now")) → length text ≡ 3
 now_length text e = ap length (exact_bytes text (codes "now") (is_equal _ (is_eq-slice_cmp text (codes "now") ∙ e)))
 
--- seconds are at least one byte, and behind the first they are digits
+-- seconds are at least one byte, and after the first they are digits
 seconds_length : (text : List ℕ) (z : ℤ) → SpellsSeconds text z → 0 < length text
 seconds_length text z (_, inl plain) = plain.1.0.0
 seconds_length text z (_, inr negated) = let e = ap length negated.2 in omega arith
@@ -78,14 +79,16 @@ raw_digit text t spelled k above within =
 
 at_length : (civil : Civil) (text : List ℕ) (n : ℕ) (t : Time) → IsTimeAt civil (drop n text) t → n ≤ length text → length text ≡ n + 5
 at_length civil text n t moment long =
-    let five : length (drop n text) ≡ 5 = eqb-true _ _ (and_parts _ _ (and_parts _ _ moment.form).0).0 in
+    let five : length (drop n text) ≡ 5 = offset_length (drop n text) t.offset moment.offset in
     omega (arith, length-drop n text)
 
 same_time : (s t o p : ℤ) → s ≡ t → o ≡ p → (let a : Time = record { seconds = s; offset = o } in a) ≡ record { seconds = t; offset = p }
 same_time s t o p e f = cc
 
 same_at : (civil : Civil) (written : List ℕ) (a b : Time) → IsTimeAt civil written a → IsTimeAt civil written b → a ≡ b
-same_at civil written a b p q = same_time a.seconds b.seconds a.offset b.offset (p.seconds ∙ sym q.seconds) (p.offset ∙ sym q.offset)
+same_at civil written a b p q =
+    let offset = offset_once written a.offset b.offset p.offset q.offset in
+    same_time a.seconds b.seconds a.offset b.offset (p.seconds ∙ ap (seconds_at civil) offset ∙ sym q.seconds) offset
 
 day_length : (text : List ℕ) (t : Time) → SpellsIsoDay text t → length text ≡ 10
 day_length text t spelled = eqb-true _ _ (and_parts _ _ spelled.form).0

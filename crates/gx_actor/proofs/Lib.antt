@@ -1,6 +1,9 @@
 mod DateLemmas
 mod DatesOnce
 mod IndexLemmas
+mod LineForms
 mod LineLemmas
+mod LineTexts
+mod OffsetLemmas
 mod PersonaLemmas
 mod SearchLemmas

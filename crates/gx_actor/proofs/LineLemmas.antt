@@ -7,7 +7,7 @@ use Rattle.std.proofs.lemmas.Bool.Decides.{nat_tests}
 use Rattle.std.proofs.lemmas.List.Splits.{slice_split_first, slice_split-cons_no}
 use Rattle.gx_object.specs.Message.{is_newline}
 use Rattle.gx_actor.specs.declared.mailmap.entry.Entry.{Entry}
-use Rattle.gx_actor.specs.MailmapLine.{entry_of, mailmap_entries}
+use Rattle.gx_actor.specs.LineReading.{entry_of, mailmap_entries}
 
 -- where a test passes first, it passes within the list, and where none passes the place is past it
 found : (p : ℕ → Bool) (xs : List ℕ) (at : ℕ) (t : Bool) → nat_lt (position_or_len p xs) (length xs) ≡ t → cond t (Some (position_or_len p xs)) None ≡ Some at → (position_or_len p xs ≡ at) × (position_or_len p xs < length xs)

@@ -3,8 +3,10 @@ pub mod Date
 pub mod Form
 pub mod Identity
 pub mod Index
+pub mod LineReading
 pub mod LineViews
 pub mod Mailmap
 pub mod MailmapLine
 pub mod Names
+pub mod Offset
 pub mod Persona

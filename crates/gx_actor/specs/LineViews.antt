@@ -4,7 +4,7 @@ use Rattle.bstr.specs.BStr.{bstr_bytes}
 use Rattle.gx_actor.specs.declared.mailmap.entry.Entry.{Entry}
 use Rattle.gx_actor.specs.declared.mailmap.parse.EntryRef.{EntryRef}
 use Rattle.gx_actor.specs.declared.mailmap.parse.Part.{Part}
-use Rattle.gx_actor.specs.MailmapLine.{LinePart}
+use Rattle.gx_actor.specs.LineReading.{LinePart}
 
 -- the texts of a part, wherever they are kept (ours)
 abbrev pub part_text : Part → LinePart

@@ -1,73 +1,72 @@
--- How the lines of a mailmap are read.
-use Rattle.std.specs.Prelude.{ℕ, ◌+◌, ◌==◌, nat_eq, Bool, true, List, codes, take, drop, Option, Some, None, option_map, option_and_then, if◌then◌else◌}
-use Rattle.std.specs.List.{slice_split, filter_map, position, find, starts_with}
-use Rattle.std.specs.Option.{option_map_or}
-use Rattle.gx_object.specs.Message.{is_newline, is_no_space, trim_start, trim_end, unless_empty}
+-- What the lines of a mailmap mean (gitmailmap(5)).
+use Rattle.std.specs.Prelude.{◌≡◌, ◌⊎◌, ◌<◌, ℕ, nat_eq, List, [], ◌∷◌, ◌++◌, length, codes, Option, Some, None, IsTrue, MatchOption}
+use Rattle.std.specs.List.{slice_split, filter_map, list_all, starts_with}
+use Rattle.gx_object.specs.Message.{is_newline, is_space, trim_start, trim_end}
+use Rattle.gx_object.specs.Split.{Lacks}
 use Rattle.gx_actor.specs.declared.mailmap.entry.Entry.{Entry}
 
--- what is before the first such byte, and what is after it (ours)
-abbrev pub cut : ℕ → List ℕ → Option (List ℕ × List ℕ)
-cut byte text = option_map (λ at. (take at text, drop (at + 1) text)) (position (λ b. b == byte) text)
+infixr 6 ◌⋅◌
+-- a text of the first kind, and after it one of the second (ours)
+abbrev pub ◌⋅◌ : (List ℕ → Type 0) → (List ℕ → Type 0) → List ℕ → Type 0
+◌⋅◌ First Second text = (front : List ℕ) × (back : List ℕ) × (text ≡ front ++ back) × First front × Second back
 
--- a name and an email of a line, and what follows the email's `>` (gitmailmap(5), "Syntax")
-pub record LinePart : Type 0 where
-  pub name : List ℕ
-  pub email : List ℕ
-  pub rest : List ℕ
+-- white space alone, or nothing (ours)
+abbrev pub IsBlank : List ℕ → Type 0
+IsBlank text = IsTrue (list_all is_space text)
 
--- the text without white space at its ends, of an email too (gix-mailmap; Git keeps white space within brackets)
+-- the text without white space at its ends (ours)
 abbrev pub trim : List ℕ → List ℕ
 trim text = trim_end (trim_start text)
 
--- An email is between the first `<` and the first `>` after it, and a name is before the `<`. (gitmailmap(5), "Syntax")
-abbrev pub part_of : List ℕ → Option LinePart
-part_of text =
-    option_and_then (λ opened.
-    option_map (λ closed. record { name = trim opened.0; email = trim closed.0; rest = closed.1 }) (cut 62 opened.1))
-    (cut 60 text)
+-- A name, with white space round it or none. It has no `<`, and at least one byte. (gitmailmap(5), "Syntax")
+pub record IsName (name text : List ℕ) : Type 0 where
+  pub no_bracket : Lacks 60 text
+  pub trimmed : trim text ≡ name
+  pub some : 0 < length name
 
--- nothing but white space, or a comment after it (ours: gitmailmap(5) has comments on lines of their own)
-abbrev pub is_end : List ℕ → Bool
-is_end rest = option_map_or (λ b. b == 35) (find is_no_space rest) true
+-- An email between `<` and the first `>` after it, with white space round it or none. It has at least one byte.
+-- (gitmailmap(5), "Syntax"; that white space within the brackets goes is of gix-mailmap: Git keeps it)
+pub record IsEmail (email text : List ℕ) : Type 0 where
+  pub inside : List ℕ
+  pub brackets : text ≡ 60 ∷ inside ++ 62 ∷ []
+  pub no_bracket : Lacks 62 inside
+  pub trimmed : trim inside ≡ email
+  pub some : 0 < length email
 
--- `Proper Name <commit@email>` replaces the name of those with the email. (gitmailmap(5), "Syntax")
-abbrev pub one_email : Option (List ℕ) → Option (List ℕ) → Option Entry
-one_email (Some name) (Some old_email) =
-    Some (record { new_name = Some name; new_email = None; old_name = None; old_email = old_email })
-one_email name email = None
+-- A `#` begins a comment to the end of the line, also after the last email. (gitmailmap(5), "Syntax"; that nothing but
+-- white space is before it there is ours)
+abbrev pub IsEnd : List ℕ → Type 0
+IsEnd text = IsBlank text
+    ⊎ ((space : List ℕ) × (comment : List ℕ) × (text ≡ space ++ 35 ∷ comment) × IsBlank space)
 
--- `<proper@email> <commit@email>` replaces the email, `Proper Name <proper@email> <commit@email>` both, and
--- `Proper Name <proper@email> Commit Name <commit@email>` both for those with that name alone.
--- (gitmailmap(5), "Syntax")
-abbrev pub two_emails : Option (List ℕ) → Option (List ℕ) → Option (List ℕ) → Option (List ℕ) → Option Entry
-two_emails None (Some email) None (Some old_email) =
-    Some (record { new_name = None; new_email = Some email; old_name = None; old_email = old_email })
-two_emails (Some name) (Some email) None (Some old_email) =
-    Some (record { new_name = Some name; new_email = Some email; old_name = None; old_email = old_email })
-two_emails (Some name) (Some email) (Some old_name) (Some old_email) =
-    Some (record { new_name = Some name; new_email = Some email; old_name = Some old_name; old_email = old_email })
-two_emails name email old_name old_email = None
+-- A name after an email is no comment. (ours)
+abbrev pub IsCommitName : List ℕ → List ℕ → Type 0
+IsCommitName name text = IsName name text × ¬ IsEnd text
 
--- A line with two emails ends after the second. (gitmailmap(5), "Syntax")
-abbrev pub entry_of_two : LinePart → LinePart → Option Entry
-entry_of_two first second =
-    if is_end second.rest
-    then two_emails (unless_empty first.name) (unless_empty first.email)
-    (unless_empty second.name) (unless_empty second.email)
-    else None
+-- A line has one of four forms: `Proper Name <commit@email.xx>`, `<proper@email.xx> <commit@email.xx>`,
+-- `Proper Name <proper@email.xx> <commit@email.xx>`, and
+-- `Proper Name <proper@email.xx> Commit Name <commit@email.xx>`. (gitmailmap(5), "Syntax")
+abbrev pub HasForm : Option (List ℕ) → Option (List ℕ) → Option (List ℕ) → List ℕ → List ℕ → Type 0
+HasForm (Some name) None None old_email = IsName name ⋅ IsEmail old_email ⋅ IsEnd
+HasForm None (Some email) None old_email = IsBlank ⋅ IsEmail email ⋅ IsBlank ⋅ IsEmail old_email ⋅ IsEnd
+HasForm (Some name) (Some email) None old_email = IsName name ⋅ IsEmail email ⋅ IsBlank ⋅ IsEmail old_email ⋅ IsEnd
+HasForm (Some name) (Some email) (Some old_name) old_email =
+    IsName name ⋅ IsEmail email ⋅ IsCommitName old_name ⋅ IsEmail old_email ⋅ IsEnd
+HasForm name email old_name old_email = λ line. ⊥
 
--- A line ends after its first email, or has a second. (gitmailmap(5), "Syntax")
-abbrev pub entry_of_parts : LinePart → Option Entry
-entry_of_parts first =
-    if is_end first.rest then one_email (unless_empty first.name) (unless_empty first.email)
-    else option_and_then (entry_of_two first) (part_of first.rest)
+-- A line whose first byte is `#` is a comment. (gitmailmap(5), "Syntax")
+abbrev pub IsComment : List ℕ → Type 0
+IsComment line = IsTrue (starts_with nat_eq line (codes "#"))
 
--- A line has one of these four forms, and may end in a comment. A line that begins with `#` is a comment. Others are
--- passed over. (gitmailmap(5), "Syntax"; which lines are passed over is ours)
-abbrev pub entry_of : List ℕ → Option Entry
-entry_of line =
-    if starts_with nat_eq line (codes "#") then None else option_and_then entry_of_parts (part_of line)
+-- a line of an entry: no comment, and in the form of what the entry gives (gitmailmap(5), "Syntax")
+pub record IsLineOf (entry : Entry) (line : List ℕ) : Type 0 where
+  pub no_comment : ¬ IsComment line
+  pub form : HasForm entry.new_name entry.new_email entry.old_name entry.old_email line
 
--- the entries of a mailmap, in the order of its lines (gitmailmap(5), "Syntax")
-abbrev pub mailmap_entries : List ℕ → List Entry
-mailmap_entries text = filter_map entry_of (slice_split is_newline text)
+-- A mailmap has the entries of its lines, in their order. Lines of no entry are passed over. (gitmailmap(5), "Syntax";
+-- that lines of no form are passed over is ours)
+pub record IsMailmap (text : List ℕ) (entries : List Entry) : Type 0 where
+  pub meaning : List ℕ → Option Entry
+  pub means : (line : List ℕ)
+      → MatchOption (meaning line) ((entry : Entry) → ¬ IsLineOf entry line) (λ entry. IsLineOf entry line)
+  pub in_order : entries ≡ filter_map meaning (slice_split is_newline text)

@@ -23,6 +23,13 @@ pub struct BadDate;
 ///
 /// The forms are `now`, `1660797906 +0800`, `2022-08-18`, `2022-08-18 12:45:06 +0800`, the same with a `T` for the
 /// first space, and `Thu, 18 Aug 2022 12:45:06 +0800`.
+///
+/// ```
+/// let time = read_time(b"2022-08-18 12:45:06 +0800", now)?;
+/// // time.seconds is 1660797906, and time.offset is 28800
+/// let refused = read_time(b"2022-02-30", now);
+/// // Err(BadDate)
+/// ```
 pub fn read_time(text: &[u8], now: Time) -> Result<Time, BadDate>
     ensures { MatchResult result (SpellsDate now text.now) (λ _. (time : Time) → ¬ SpellsDate now text.now time) }
 {

@@ -19,6 +19,13 @@ pub struct Entity {
 }
 
 /// The committer and the author, and the user whose name and email they have where they lack their own.
+///
+/// ```
+/// let personas = Personas::from_settings(alloc, &settings, now)?;
+/// if let Some(committer) = committer_of(&personas) {
+///     let who = committer.to_owned(alloc)?;
+/// }
+/// ```
 #[derive(Debug, Drop)]
 pub struct Personas {
     pub user: Entity,

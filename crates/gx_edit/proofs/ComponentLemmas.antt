@@ -1,4 +1,4 @@
--- A text's names, up to its first slash and behind it.
+-- A text's names, up to its first slash and after it.
 use Rattle.std.proofs.Common.{◌≡◌, ℕ, suc, Bool, true, false, ◌+◌, ◌<◌, ◌≤◌, cond, List, [], ◌∷◌, drop, take, length, Option, Some, None, refl, sym, ap, ◌∙◌, arith, ◌==◌, add-one, one-add, not, nat_lt, MatchOption, ltb-true, ltb-false}
 use Rattle.std.specs.List.{position, position_or_len}
 use Rattle.gx_edit.specs.Path.{Path, components, at_front}

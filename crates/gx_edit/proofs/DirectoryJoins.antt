@@ -1,4 +1,4 @@
--- Directories one behind another, and what stands in a directory that is not whole yet.
+-- Directories one after another, and what stands in a directory that is not whole yet.
 use Rattle.std.proofs.Common.{◌≡◌, ◌≢◌, ℕ, Bool, true, false, ◌&&◌, cond, List, [], ◌∷◌, ◌++◌, map, append_assoc, Option, Some, None, refl, sym, ap, ap₂, ◌∙◌, subst, true≢false}
 use Rattle.std.specs.Str.{bytes_eq}
 use Rattle.std.specs.List.{AllByRecursion}
@@ -50,7 +50,7 @@ leaf_none n (File m x rest) [] h = rw (bytes_eq-no m n h.0) (leaf_none n rest []
 leaf_none n (File m x rest) (c ∷ p) h = leaf_none n rest (c ∷ p) h.1
 leaf_none n (Sub m inner rest) p h = rw (bytes_eq-no m n h.0) (leaf_none n rest p h.1)
 
--- what stands behind entries of other names
+-- what stands after entries of other names
 leaf_behind : (n : List ℕ) (d e : Directory) (p : Path) → HasNot n d → leaf_at (join d e) (n ∷ p) ≡ leaf_at e (n ∷ p)
 leaf_behind n End e p h = refl
 leaf_behind n (File m x rest) e [] h = rw (bytes_eq-no m n h.0) (leaf_behind n rest e [] h.1)

@@ -12,7 +12,7 @@ use Rattle.gx_edit.proofs.PathLemmas.{bytes_eq-is}
 use Rattle.gx_edit.proofs.ComponentLemmas.{components_some}
 use Rattle.gx_edit.proofs.TextLemmas.{bytes_eq-turned, same_text, map_text, map_none, by_text, and_false}
 
--- a path leads to another where their texts are one, or the second goes on behind the first with a slash
+-- a path leads to another where their texts are one, or the second goes on after the first with a slash
 pub leads_text : (p k : List ℕ) → leads_to (components p) (components k) ≡ (bytes_eq p k || is_below p k)
 leads_text [] [] = refl
 leads_text [] (b ∷ k) = go (b == 47) (components k)

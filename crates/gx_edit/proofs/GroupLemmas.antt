@@ -18,7 +18,7 @@ into_first n c text = go (components text) (components_some text)
     go [] some = absurd (some refl)
     go (d ∷ p) some = refl
 
--- what is left of a path behind the directory that it goes into
+-- what is left of a path after the directory that it goes into
 rest_below : (n text : List ℕ) (at : ℕ) → at ≤ length text → goes_into n (components (drop at text)) ≡ true
     → (at + length n + 1 ≤ length text) × (components (drop at text) ≡ n ∷ components (drop (at + length n + 1) text))
 rest_below n text at within into = go (position is_slash (drop at text)) (components-position (drop at text))

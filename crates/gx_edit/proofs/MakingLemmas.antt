@@ -135,7 +135,7 @@ entry_canonical : (n : List ℕ) (it : Item) (d : Directory) → IsName n → Is
 entry_canonical n (inl x) d name item f ok = (name, f, ok, item)
 entry_canonical n (inr i) d name item f ok = (name, item.0, item.1, f, ok)
 
-inserted_canonical : (n : List ℕ) (it : Item) (d : Directory) → IsName n → IsItem it → HasNot n d → IsCanonical d → IsCanonical (inserted n it d)
+pub inserted_canonical : (n : List ℕ) (it : Item) (d : Directory) → IsName n → IsItem it → HasNot n d → IsCanonical d → IsCanonical (inserted n it d)
 inserted_canonical n it End name item h ok = entry_canonical n it End name item tt tt
 inserted_canonical n it (File m leaf rest) name item h ok = go (is_lt (name_cmp (key n it) m)) refl (inserted_canonical n it rest name item h.1 ok.2)
   where
@@ -154,7 +154,7 @@ entry_some : (n : List ℕ) (it : Item) (d : Directory) → entry n it d ≢ End
 entry_some n (inl x) d e = cc
 entry_some n (inr i) d e = cc
 
-inserted_some : (n : List ℕ) (it : Item) (d : Directory) → inserted n it d ≢ End
+pub inserted_some : (n : List ℕ) (it : Item) (d : Directory) → inserted n it d ≢ End
 inserted_some n it End = entry_some n it End
 inserted_some n it (File m leaf rest) = go (is_lt (name_cmp (key n it) m))
   where
@@ -193,7 +193,7 @@ swapped n m c other a b o = go (bytes_eq n c) (bytes_eq m c) refl refl
     go true false e f = refl
     go false u e f = refl
 
-inserted_at : (n : List ℕ) (it : Item) (d : Directory) (c : List ℕ) (p : Path) → HasNot n d → leaf_at (inserted n it d) (c ∷ p) ≡ cond (bytes_eq n c) (item_at it p) (leaf_at d (c ∷ p))
+pub inserted_at : (n : List ℕ) (it : Item) (d : Directory) (c : List ℕ) (p : Path) → HasNot n d → leaf_at (inserted n it d) (c ∷ p) ≡ cond (bytes_eq n c) (item_at it p) (leaf_at d (c ∷ p))
 inserted_at n it End c p h = entry_at n it End c p tt
 inserted_at n it (File m leaf rest) c p h = go (is_lt (name_cmp (key n it) m)) p (inserted_at n it rest c p h.1)
   where

@@ -15,7 +15,7 @@ use Rattle.gx_edit.specs.declared.writing.plan.OpenDirectory.{OpenDirectory}
 use Rattle.gx_edit.specs.declared.writing.plan.Plan.{Plan}
 use Rattle.gx_edit.proofs.PlanLemmas.{nothing_made, tree_entry, IsAtRow, at_first, past_file, IsSub, sub_found, IsPlanned, past_sub, all_planned, trees_made, entries_made}
 
--- what is left to be planned behind the directories that are begun
+-- what is left to be planned after the directories that are begun
 abbrev pub loads : List OpenDirectory → ℕ
 loads [] = 0
 loads (o ∷ os) = load o.at o.after.now + loads os

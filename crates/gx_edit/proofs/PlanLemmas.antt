@@ -35,7 +35,7 @@ nothing_made = record { trees = []; entries = [] }
 abbrev pub tree_entry : List ℕ → ObjectId → Entry
 tree_entry n id = record { mode = record { value = mode_of entry_kind.Tree }; filename = n; oid = id }
 
--- what is made behind other things as the entries of a directory are gone through
+-- what is made after other things as the entries of a directory are gone through
 abbrev pub made_below : HashKind → Directory → Made → Made
 made_below hash End m = m
 made_below hash (File n leaf rest) m = made_below hash rest (with_entry (record { mode = leaf.mode; filename = n; oid = leaf.id }) m)

@@ -35,7 +35,7 @@ use Rattle.gx_edit.proofs.DirectoryJoins.{join, entries-join, trees-join, Above,
 
 -- ---- paths
 
--- the path of the directories that are begun, with a slash behind each
+-- the path of the directories that are begun, with a slash after each
 abbrev pub text_of : List Above → List ℕ
 text_of [] = []
 text_of (k ∷ ks) = k.entry.filename ++ 47 ∷ text_of ks

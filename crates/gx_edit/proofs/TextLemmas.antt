@@ -156,7 +156,7 @@ pub and_false : (b : Bool) → b && false ≡ false
 and_false true = refl
 and_false false = refl
 
--- what begins with a text and a slash lies from there on, and before the text with the byte behind the slash
+-- what begins with a text and a slash lies from there on, and before the text with the byte after the slash
 at_end : (k : List ℕ) → is_le (slice_cmp nat_cmp [] k) ≡ true
 at_end [] = refl
 at_end (b ∷ k) = refl

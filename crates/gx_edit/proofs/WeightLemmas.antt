@@ -3,7 +3,7 @@ use Rattle.std.proofs.Common.{◌≡◌, ℕ, suc, zero, ◌+◌, ◌-◌, ◌*�
 use Rattle.std.proofs.Math.Nat.{suc-mul, mul-le-mul_right}
 use Rattle.gx_edit.specs.declared.stored_tree.open_tree.OpenTree.{OpenTree}
 
--- more than any number of steps below an entry where so many trees have room below its own
+-- more than any number of steps below an entry where this many trees have room below its own
 unfoldable pub power : ℕ → ℕ
 power zero = 1
 power (suc room) = (2 ^ 64 + 2) * power room

@@ -2,6 +2,7 @@ pub mod CanonicalTree
 pub mod CheckOutput
 pub mod Checking
 pub mod Entries
+pub mod LawsView
 pub mod OpenTree
 pub mod Output
 pub mod Path
@@ -12,4 +13,8 @@ pub mod Planning
 pub mod ReadMapCauses
 pub mod Refusals
 pub mod SharedIds
+pub mod StandsForMap
+pub mod View
+pub mod ViewOfEdits
 pub mod Writing
+pub mod Written

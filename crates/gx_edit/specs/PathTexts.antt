@@ -19,7 +19,7 @@ rows_of m = rows_in m.entries
 abbrev pub leaf_at_text : PathList → List ℕ → Option Leaf
 leaf_at_text rows text = lookup (bytes_eq text) rows
 
--- the second text goes on behind the first with a slash
+-- the second text goes on after the first with a slash
 abbrev pub is_below : List ℕ → List ℕ → Bool
 is_below [] [] = false
 is_below [] (b ∷ q) = b == 47

@@ -62,7 +62,7 @@ goes_into n (c ∷ d ∷ p) = bytes_eq c n
 abbrev pub run : List ℕ → List (Path × Leaf) → ℕ
 run n = prefix_len (λ r. goes_into n r.0)
 
--- the rows at the front that go into the directory of this name, and those behind them
+-- the rows at the front that go into the directory of this name, and those after them
 pub record IsFrontGroup (at : ℕ) (rs : List Row) (name : List ℕ) (group after : List Row) : Type 0 where
   pub some : 0 < length group
   pub counted : run name (rows_at at rs) ≡ length group

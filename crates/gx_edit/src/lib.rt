@@ -5,6 +5,7 @@
 //! what a commit of the edits names.
 #![tactic(auto)]
 
+mod editor;
 mod error;
 pub mod laws;
 mod leaf;
@@ -13,6 +14,7 @@ mod path;
 mod path_edit;
 mod path_map;
 mod stored_tree;
+pub mod view_laws;
 mod writing;
 
 pub use error::EditError;

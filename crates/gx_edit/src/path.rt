@@ -18,7 +18,7 @@ fn first_slash(path: &[u8]) -> Option<usize>
     slash_at(path)
 }
 
-/// Parts a path at its first slash, into the first name and the path behind the slash. None where there is no slash.
+/// Parts a path at its first slash, into the first name and the path after the slash. None where there is no slash.
 pub(crate) fn split_first_name(path: &[u8]) -> Option<(&[u8], &[u8])>
     ensures parts { MatchOption result (components path.now ≡ path.now ∷ [])
         (λ parts. components path.now ≡ parts.0.now ∷ components parts.1.now) }

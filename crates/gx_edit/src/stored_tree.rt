@@ -74,9 +74,9 @@ pub fn read_map<S: Objects>(alloc: Global, store: &S, root: ObjectId) -> Result<
     }
 }
 
-/// Which of the trees that are begun is compared with those below it, once so many are begun. It moves where the depth
-/// doubles, and where its tree is closed: so a tree that stands below itself is found, after a few rounds at most, by
-/// one comparison a tree.
+/// Which of the trees that are begun is compared with those below it, once this many are begun. It moves where the
+/// depth doubles, and where its tree is closed: so a tree that stands below itself is found, after a few rounds at
+/// most, by one comparison a tree.
 fn next_mark(mark: usize, depth: usize) -> usize {
     if mark < depth / 2 || depth < mark {
         depth

@@ -1,14 +1,14 @@
 //! Rows on dates, personas and mailmaps.
 
-use crate::answers::{push_field, push_shown, word};
-use crate::error::ProbeError;
 use bstr::BStr;
 use gx_actor::{
-    IdentityRef, PersonaSettings, Personas, Snapshot, author_of, committer_of, parse_ignore_errors,
-    read_time,
+    Entry, IdentityRef, MailmapEntries, PersonaSettings, Personas, Snapshot, author_of,
+    committer_of, parse_ignore_errors, read_time,
 };
 use gx_hash::{Bytes, NoMemory};
 use gx_object::Time;
+use probe_rows::ProbeError;
+use probe_rows::answers::{push_field, push_shown, word};
 use std::alloc::Global;
 
 /// The moment that rows give.
@@ -23,17 +23,32 @@ pub fn answer(
     call: &[u8],
     fields: &[Vec<u8>],
 ) -> Result<Option<Vec<u8>>, ProbeError> {
-    match (call, fields) {
-        (b"date", [text]) => Ok(Some(answer_date(alloc, text)?)),
-        (b"committer" | b"author", texts) => answer_persona(alloc, call, texts),
-        (b"mailmap", [name, email, mailmaps @ ..]) => {
-            Ok(Some(answer_mailmap(alloc, name, email, mailmaps)?))
-        }
+    match call {
+        b"date" => Ok(Some(answer_date(alloc, fields)?)),
+        b"committer" | b"author" => answer_persona(alloc, call, fields, true),
+        b"committer_untimed" => answer_persona(alloc, b"committer", fields, false),
+        b"author_untimed" => answer_persona(alloc, b"author", fields, false),
+        _ => answer_on_mailmaps(alloc, call, fields),
+    }
+}
+
+fn answer_on_mailmaps(
+    alloc: Global,
+    call: &[u8],
+    fields: &[Vec<u8>],
+) -> Result<Option<Vec<u8>>, ProbeError> {
+    match call {
+        b"mailmap" => Ok(Some(answer_mailmap(alloc, fields)?)),
+        b"merged" => answer_merged(alloc, fields),
+        b"mailmap_entries" => Ok(Some(answer_entries(alloc, fields)?)),
         _ => Ok(None),
     }
 }
 
-fn answer_date(alloc: Global, text: &[u8]) -> Result<Vec<u8>, ProbeError> {
+fn answer_date(alloc: Global, fields: &[Vec<u8>]) -> Result<Vec<u8>, ProbeError> {
+    let [text] = fields else {
+        return Err(ProbeError::BadLine);
+    };
     match read_time(text, NOW) {
         Ok(time) => shown_time(alloc, time),
         Err(_) => word(alloc, "bad-date"),
@@ -45,16 +60,21 @@ fn shown_time(alloc: Global, time: Time) -> Result<Vec<u8>, ProbeError> {
     Ok(format!(in alloc; "{seconds} {offset}")?.into_bytes())
 }
 
-/// The persona of settings whose names and texts stand by turns.
+/// The persona of settings whose names and texts stand by turns, or of ones whose time is taken away.
 fn answer_persona(
     alloc: Global,
     call: &[u8],
     texts: &[Vec<u8>],
+    timed: bool,
 ) -> Result<Option<Vec<u8>>, ProbeError> {
     let Some(settings) = read_settings(alloc, texts)? else {
         return Ok(None);
     };
-    let personas = Personas::from_settings(alloc, &settings, NOW)?;
+    let mut personas = Personas::from_settings(alloc, &settings, NOW)?;
+    if !timed {
+        personas.committer.time = None;
+        personas.author.time = None;
+    }
     let found = match call {
         b"committer" => committer_of(&personas),
         _ => author_of(&personas),
@@ -109,37 +129,67 @@ fn no_settings() -> PersonaSettings {
 
 /// Sets the text of this name, if there is one.
 fn set(settings: &mut PersonaSettings, name: &[u8], text: Bytes) -> bool {
-    let place = match name {
-        b"committer-name" => &mut settings.committer_name,
-        b"committer-email" => &mut settings.committer_email,
-        b"committer-name-fallback" => &mut settings.committer_name_fallback,
-        b"committer-email-fallback" => &mut settings.committer_email_fallback,
-        b"committer-date" => &mut settings.committer_date,
-        b"author-name" => &mut settings.author_name,
-        b"author-email" => &mut settings.author_email,
-        b"author-name-fallback" => &mut settings.author_name_fallback,
-        b"author-email-fallback" => &mut settings.author_email_fallback,
-        b"author-date" => &mut settings.author_date,
-        b"user-name" => &mut settings.user_name,
-        b"user-email" => &mut settings.user_email,
-        b"user-email-fallback" => &mut settings.user_email_fallback,
+    if let Some(name) = name.strip_prefix(b"committer-") {
+        return set_of_committer(settings, name, text);
+    }
+    if let Some(name) = name.strip_prefix(b"author-") {
+        return set_of_author(settings, name, text);
+    }
+    set_of_user(settings, name, text)
+}
+
+fn set_of_committer(settings: &mut PersonaSettings, name: &[u8], text: Bytes) -> bool {
+    match name {
+        b"name" => settings.committer_name = Some(text),
+        b"email" => settings.committer_email = Some(text),
+        b"name-fallback" => settings.committer_name_fallback = Some(text),
+        b"email-fallback" => settings.committer_email_fallback = Some(text),
+        b"date" => settings.committer_date = Some(text),
         _ => return false,
-    };
-    *place = Some(text);
+    }
     true
 }
 
-fn answer_mailmap(
-    alloc: Global,
-    name: &[u8],
-    email: &[u8],
-    mailmaps: &[Vec<u8>],
-) -> Result<Vec<u8>, ProbeError> {
+fn set_of_author(settings: &mut PersonaSettings, name: &[u8], text: Bytes) -> bool {
+    match name {
+        b"name" => settings.author_name = Some(text),
+        b"email" => settings.author_email = Some(text),
+        b"name-fallback" => settings.author_name_fallback = Some(text),
+        b"email-fallback" => settings.author_email_fallback = Some(text),
+        b"date" => settings.author_date = Some(text),
+        _ => return false,
+    }
+    true
+}
+
+fn set_of_user(settings: &mut PersonaSettings, name: &[u8], text: Bytes) -> bool {
+    match name {
+        b"user-name" => settings.user_name = Some(text),
+        b"user-email" => settings.user_email = Some(text),
+        b"user-email-fallback" => settings.user_email_fallback = Some(text),
+        _ => return false,
+    }
+    true
+}
+
+fn answer_mailmap(alloc: Global, fields: &[Vec<u8>]) -> Result<Vec<u8>, ProbeError> {
+    let [name, email, mailmaps @ ..] = fields else {
+        return Err(ProbeError::BadLine);
+    };
     let mut snapshot = Snapshot::new(alloc);
     for mailmap in mailmaps {
         snapshot.merge(parse_ignore_errors(alloc, mailmap)?)?;
     }
-    let found = resolved(&snapshot, name, email);
+    shown_resolved(alloc, &snapshot, name, email)
+}
+
+fn shown_resolved(
+    alloc: Global,
+    snapshot: &Snapshot,
+    name: &[u8],
+    email: &[u8],
+) -> Result<Vec<u8>, ProbeError> {
+    let found = resolved(snapshot, name, email);
     let mut answer = Vec::new(alloc);
     push_field(&mut answer, found.name.as_bytes())?;
     push_field(&mut answer, found.email.as_bytes())?;
@@ -153,4 +203,73 @@ pub fn resolved<'a>(snapshot: &'a Snapshot, name: &'a [u8], email: &'a [u8]) -> 
         email: BStr::new(email),
         time: NOW,
     })
+}
+
+/// The entries of a mailmap, each as its new name, new email, old name and old email.
+fn answer_entries(alloc: Global, fields: &[Vec<u8>]) -> Result<Vec<u8>, ProbeError> {
+    let [mailmap] = fields else {
+        return Err(ProbeError::BadLine);
+    };
+    let entries = parse_ignore_errors(alloc, mailmap)?;
+    if entries.as_slice().is_empty() {
+        return word(alloc, "none");
+    }
+    let mut answer = Vec::new(alloc);
+    for entry in entries.as_slice() {
+        push_text(&mut answer, &entry.new_name)?;
+        push_text(&mut answer, &entry.new_email)?;
+        push_text(&mut answer, &entry.old_name)?;
+        push_field(&mut answer, entry.old_email.as_slice())?;
+    }
+    Ok(answer)
+}
+
+/// A text, or `-` where there is none.
+fn push_text(answer: &mut Vec<u8>, text: &Option<Bytes>) -> Result<(), ProbeError> {
+    match text {
+        Some(text) => push_field(answer, text.as_slice()),
+        None => push_field(answer, b"-"),
+    }
+}
+
+/// What entries give that are handed in, four texts for each as they are printed. They are merged one by one.
+fn answer_merged(alloc: Global, fields: &[Vec<u8>]) -> Result<Option<Vec<u8>>, ProbeError> {
+    let [name, email, texts @ ..] = fields else {
+        return Ok(None);
+    };
+    let mut snapshot = Snapshot::new(alloc);
+    snapshot.merge(MailmapEntries::new(alloc))?;
+    for entry in texts.chunks(4) {
+        let Some(entry) = read_entry(alloc, entry)? else {
+            return Ok(None);
+        };
+        snapshot.merge(with_entry(MailmapEntries::new(alloc), entry)?)?;
+    }
+    Ok(Some(shown_resolved(alloc, &snapshot, name, email)?))
+}
+
+fn read_entry(alloc: Global, texts: &[Vec<u8>]) -> Result<Option<Entry>, NoMemory> {
+    let [new_name, new_email, old_name, old_email] = texts else {
+        return Ok(None);
+    };
+    Ok(Some(Entry {
+        new_name: read_text(alloc, new_name)?,
+        new_email: read_text(alloc, new_email)?,
+        old_name: read_text(alloc, old_name)?,
+        old_email: Bytes::from_slice(alloc, old_email)?,
+    }))
+}
+
+fn read_text(alloc: Global, text: &[u8]) -> Result<Option<Bytes>, NoMemory> {
+    if text == b"-".as_slice() {
+        return Ok(None);
+    }
+    Ok(Some(Bytes::from_slice(alloc, text)?))
+}
+
+/// The entries and one more.
+fn with_entry(entries: MailmapEntries, entry: Entry) -> Result<MailmapEntries, ProbeError> {
+    let mut entries = entries.into_vec();
+    entries.push(entry)?;
+    Ok(MailmapEntries::from_vec(entries))
 }

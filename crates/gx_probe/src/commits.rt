@@ -2,18 +2,18 @@
 //! its committer by four fields each, its encoding or `none`, its message, and the name and the value of each further
 //! header.
 
-use crate::answers::{
-    again, hash_of, hex, id_of, push_failure, push_field, push_id, push_word, quoted, word,
-};
-use crate::error::ProbeError;
-use crate::identities::identity_of;
+use crate::identities::identity_in;
 use crate::objects::{
     Cuts, push_named_id, push_part, push_who, rewrite_commit, size_and_id, spelled, texts,
 };
 use gx_hash::{Bytes, HashKind, object_id};
 use gx_object::{
-    Commit, CommitRef, CommitRefIter, CommitToken, ExtraHeader, Headers, Ids, OwnedHeader, WriteTo,
-    push_commit, signature_of,
+    Commit, CommitRef, CommitRefIter, CommitToken, ExtraHeader, Headers, Ids, OwnedHeader,
+    Signature, WriteTo, push_commit, signature_of,
+};
+use probe_rows::ProbeError;
+use probe_rows::answers::{
+    again, hash_of, hex, id_of, push_failure, push_field, push_id, push_word, quoted, word,
 };
 use std::alloc::Global;
 
@@ -26,11 +26,12 @@ pub fn answer(
     let [hash, fields @ ..] = fields else {
         return Ok(None);
     };
-    match (hash_of(hash), fields) {
-        (Some(_), [ids]) if call == b"copy_ids".as_slice() => copied_ids(alloc, ids),
-        (Some(hash), [bytes]) => answer_read(alloc, call, hash, bytes),
-        (Some(hash), fields) => answer_written(alloc, call, hash, fields),
-        _ => Ok(None),
+    let Some(hash) = hash_of(hash) else {
+        return Ok(None);
+    };
+    match fields {
+        [bytes] => answer_read(alloc, call, hash, bytes),
+        _ => answer_written(alloc, call, hash, fields),
     }
 }
 
@@ -41,11 +42,9 @@ fn answer_read(
     bytes: &[u8],
 ) -> Result<Option<Vec<u8>>, ProbeError> {
     match call {
+        b"copy_ids" => copied_ids(alloc, bytes),
         b"commit" => Ok(Some(read_commit(alloc, hash, bytes)?)),
-        b"commit_again" => {
-            let written = rewrite_commit(alloc, bytes, hash)?;
-            Ok(Some(again(alloc, bytes, &written)?))
-        }
+        b"commit_again" => Ok(Some(read_again(alloc, hash, bytes)?)),
         b"commit_items" => Ok(Some(items(alloc, hash, bytes)?)),
         b"commit_cuts" => Ok(Some(cuts(alloc, hash, bytes)?)),
         b"parents" => Ok(Some(parents(alloc, hash, bytes)?)),
@@ -54,6 +53,10 @@ fn answer_read(
         b"signed_id" => Ok(Some(signed_id(alloc, hash, bytes)?)),
         _ => answer_part(alloc, call, &CommitRefIter::from_bytes(bytes, hash)),
     }
+}
+
+fn read_again(alloc: Global, hash: HashKind, bytes: &[u8]) -> Result<Vec<u8>, ProbeError> {
+    again(alloc, bytes, &rewrite_commit(alloc, bytes, hash)?)
 }
 
 /// A part of a commit, read without the others.
@@ -206,31 +209,36 @@ fn pushed(alloc: Global, commit: &Commit) -> Result<Vec<u8>, ProbeError> {
 }
 
 fn commit_of(alloc: Global, fields: &[Vec<u8>]) -> Result<Option<Commit>, ProbeError> {
-    let [
-        tree,
-        parents,
-        an,
-        ae,
-        at,
-        ao,
-        cn,
-        ce,
-        ct,
-        co,
-        encoding,
-        message,
-        headers @ ..,
-    ] = fields
-    else {
+    let Some((places, fields)) = fields.split_at_checked(2) else {
+        return Ok(None);
+    };
+    let Some((author, fields)) = fields.split_at_checked(4) else {
+        return Ok(None);
+    };
+    let Some((committer, texts)) = fields.split_at_checked(4) else {
+        return Ok(None);
+    };
+    let Some(author) = identity_in(alloc, author)? else {
+        return Ok(None);
+    };
+    let Some(committer) = identity_in(alloc, committer)? else {
+        return Ok(None);
+    };
+    commit_by(alloc, places, author, committer, texts)
+}
+
+/// The commit of these two, of the fields of its tree and its parents, and of those of its texts.
+fn commit_by(
+    alloc: Global,
+    places: &[Vec<u8>],
+    author: Signature,
+    committer: Signature,
+    texts: &[Vec<u8>],
+) -> Result<Option<Commit>, ProbeError> {
+    let ([tree, parents], [encoding, message, headers @ ..]) = (places, texts) else {
         return Ok(None);
     };
     let (Some(tree), Some(parents)) = (id_of(tree), ids_of(alloc, parents)?) else {
-        return Ok(None);
-    };
-    let (Some(author), Some(committer)) = (
-        identity_of(alloc, an, ae, at, ao)?,
-        identity_of(alloc, cn, ce, ct, co)?,
-    ) else {
         return Ok(None);
     };
     Ok(Some(Commit {

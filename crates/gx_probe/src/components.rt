@@ -1,8 +1,8 @@
 //! Rows on names in trees, on paths and on patterns.
 
-use crate::answers::{push_field, push_word, shown, truth, word};
-use crate::error::ProbeError;
 use gx_rules::{ComponentError, Pattern, PatternError, Protect, component, components};
+use probe_rows::ProbeError;
+use probe_rows::answers::{push_field, push_word, shown, truth, word};
 use std::alloc::Global;
 
 /// The answers to rows on components, paths and patterns.
@@ -11,13 +11,32 @@ pub fn answer(
     call: &[u8],
     fields: &[Vec<u8>],
 ) -> Result<Option<Vec<u8>>, ProbeError> {
-    match (call, fields) {
-        (b"component", [protect, name]) => answer_component(alloc, protect, name, false),
-        (b"link_component", [protect, name]) => answer_component(alloc, protect, name, true),
-        (b"component_message", [protect, name]) => answer_message(alloc, protect, name),
-        (b"components", [path]) => Ok(Some(answer_path(alloc, path)?)),
-        (b"pattern", [text]) => Ok(Some(answer_pattern(alloc, text)?)),
-        (b"matches", [text, name]) => Ok(Some(answer_match(alloc, text, name)?)),
+    match fields {
+        [first] => answer_to_one(alloc, call, first),
+        [first, second] => answer_to_two(alloc, call, first, second),
+        _ => Ok(None),
+    }
+}
+
+fn answer_to_one(alloc: Global, call: &[u8], first: &[u8]) -> Result<Option<Vec<u8>>, ProbeError> {
+    match call {
+        b"components" => Ok(Some(answer_path(alloc, first)?)),
+        b"pattern" => Ok(Some(answer_pattern(alloc, first)?)),
+        _ => Ok(None),
+    }
+}
+
+fn answer_to_two(
+    alloc: Global,
+    call: &[u8],
+    first: &[u8],
+    second: &[u8],
+) -> Result<Option<Vec<u8>>, ProbeError> {
+    match call {
+        b"component" => answer_component(alloc, first, second, false),
+        b"link_component" => answer_component(alloc, first, second, true),
+        b"component_message" => answer_message(alloc, first, second),
+        b"matches" => Ok(Some(answer_match(alloc, first, second)?)),
         _ => Ok(None),
     }
 }

@@ -1,7 +1,5 @@
 //! Rows on identities, times and messages. An identity's fields are its name, its email, its seconds and its offset.
 
-use crate::answers::{push_field, push_shown, quoted, shown, signed_of, truth, word};
-use crate::error::ProbeError;
 use crate::objects::{field_word, texts};
 use bstr::BStr;
 use gx_hash::{Bytes, HashKind};
@@ -9,6 +7,8 @@ use gx_object::{
     CommitRefIter, MessageRef, Signature, SignatureError, SignatureRef, Time, is_writable_identity,
     push_identity, summary, unwritable_identity,
 };
+use probe_rows::ProbeError;
+use probe_rows::answers::{push_field, push_shown, quoted, shown, signed_of, truth, word};
 use std::alloc::Global;
 
 /// The answers to rows on identities, times and messages.
@@ -17,21 +17,13 @@ pub fn answer(
     call: &[u8],
     fields: &[Vec<u8>],
 ) -> Result<Option<Vec<u8>>, ProbeError> {
-    match (call, fields) {
-        (_, [text]) => answer_text(alloc, call, text),
-        (_, [name, email, time]) => answer_ref(alloc, call, &identity_ref(name, email, time)),
-        (_, [name, email, seconds, offset]) => {
-            match identity_of(alloc, name, email, seconds, offset)? {
-                Some(who) => answer_identity(alloc, call, &who),
-                None => Ok(None),
-            }
-        }
-        (b"unwritable", [an, ae, at, ao, cn, ce, ct, co]) => {
-            let author = identity_of(alloc, an, ae, at, ao)?;
-            let committer = identity_of(alloc, cn, ce, ct, co)?;
-            answer_unwritable(alloc, &author, &committer)
-        }
-        _ => Ok(None),
+    match fields {
+        [text] => answer_text(alloc, call, text),
+        [name, email, time] => answer_ref(alloc, call, &identity_ref(name, email, time)),
+        _ => match call {
+            b"unwritable" => answer_unwritable(alloc, fields),
+            _ => answer_identity(alloc, call, fields),
+        },
     }
 }
 
@@ -39,14 +31,11 @@ fn answer_text(alloc: Global, call: &[u8], text: &[u8]) -> Result<Option<Vec<u8>
     match call {
         b"time" => Ok(Some(time(alloc, text)?)),
         b"time_message" => Ok(Some(time_message(alloc, text)?)),
-        b"seconds" => Ok(Some(shown(alloc, &identity_ref(b"", b"", text).seconds())?)),
+        b"seconds" => Ok(Some(seconds(alloc, text)?)),
         b"identity" => Ok(Some(split(alloc, text)?)),
         b"message" => Ok(Some(parts(alloc, text)?)),
-        b"summary" => Ok(Some(quoted(alloc, summary(alloc, text)?.as_slice())?)),
-        b"title_summary" => {
-            let title = MessageRef::from_bytes(text).summary(alloc)?;
-            Ok(Some(quoted(alloc, title.as_slice())?))
-        }
+        b"summary" => Ok(Some(summary_of(alloc, text)?)),
+        b"title_summary" => Ok(Some(title_summary(alloc, text)?)),
         _ => Ok(None),
     }
 }
@@ -64,6 +53,10 @@ fn time(alloc: Global, text: &[u8]) -> Result<Vec<u8>, ProbeError> {
         Ok(time) => seconds_and_offset(alloc, time),
         Err(_) => word(alloc, "bad-time"),
     }
+}
+
+fn seconds(alloc: Global, text: &[u8]) -> Result<Vec<u8>, ProbeError> {
+    shown(alloc, &identity_ref(b"", b"", text).seconds())
 }
 
 /// The words on why the text is no time.
@@ -100,6 +93,15 @@ fn parts(alloc: Global, text: &[u8]) -> Result<Vec<u8>, ProbeError> {
     Ok(answer)
 }
 
+fn summary_of(alloc: Global, text: &[u8]) -> Result<Vec<u8>, ProbeError> {
+    quoted(alloc, summary(alloc, text)?.as_slice())
+}
+
+fn title_summary(alloc: Global, text: &[u8]) -> Result<Vec<u8>, ProbeError> {
+    let title = MessageRef::from_bytes(text).summary(alloc)?;
+    quoted(alloc, title.as_slice())
+}
+
 fn answer_ref(
     alloc: Global,
     call: &[u8],
@@ -124,13 +126,11 @@ fn owned(alloc: Global, who: &SignatureRef<'_>) -> Result<Vec<u8>, ProbeError> {
     Ok(answer)
 }
 
-pub fn identity_of(
-    alloc: Global,
-    name: &[u8],
-    email: &[u8],
-    seconds: &[u8],
-    offset: &[u8],
-) -> Result<Option<Signature>, ProbeError> {
+/// The identity that four fields are.
+pub fn identity_in(alloc: Global, fields: &[Vec<u8>]) -> Result<Option<Signature>, ProbeError> {
+    let [name, email, seconds, offset] = fields else {
+        return Ok(None);
+    };
     let Some(time) = time_of(seconds, offset) else {
         return Ok(None);
     };
@@ -151,12 +151,15 @@ fn time_of(seconds: &[u8], offset: &[u8]) -> Option<Time> {
 fn answer_identity(
     alloc: Global,
     call: &[u8],
-    who: &Signature,
+    fields: &[Vec<u8>],
 ) -> Result<Option<Vec<u8>>, ProbeError> {
+    let Some(who) = identity_in(alloc, fields)? else {
+        return Ok(None);
+    };
     match call {
-        b"write_identity" => Ok(Some(written(alloc, who)?)),
+        b"write_identity" => Ok(Some(written(alloc, &who)?)),
         b"copy_identity" => Ok(Some(written(alloc, &who.try_clone()?)?)),
-        b"is_writable_identity" => Ok(Some(truth(alloc, is_writable_identity(who))?)),
+        b"is_writable_identity" => Ok(Some(truth(alloc, is_writable_identity(&who))?)),
         _ => Ok(None),
     }
 }
@@ -168,15 +171,17 @@ fn written(alloc: Global, who: &Signature) -> Result<Vec<u8>, ProbeError> {
 }
 
 /// The first field of an author and a committer that can't be written.
-fn answer_unwritable(
-    alloc: Global,
-    author: &Option<Signature>,
-    committer: &Option<Signature>,
-) -> Result<Option<Vec<u8>>, ProbeError> {
-    let (Some(author), Some(committer)) = (author, committer) else {
+fn answer_unwritable(alloc: Global, fields: &[Vec<u8>]) -> Result<Option<Vec<u8>>, ProbeError> {
+    let Some((author, committer)) = fields.split_at_checked(4) else {
         return Ok(None);
     };
-    match unwritable_identity(author, committer) {
+    let Some(author) = identity_in(alloc, author)? else {
+        return Ok(None);
+    };
+    let Some(committer) = identity_in(alloc, committer)? else {
+        return Ok(None);
+    };
+    match unwritable_identity(&author, &committer) {
         Some(field) => Ok(Some(word(alloc, field_word(field))?)),
         None => Ok(Some(word(alloc, "none")?)),
     }

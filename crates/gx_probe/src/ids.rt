@@ -1,10 +1,10 @@
 //! Rows on ids and their prefixes.
 
-use crate::answers::{
+use gx_hash::{Bytes, HashKind, HexError, ObjectId, object_id};
+use probe_rows::ProbeError;
+use probe_rows::answers::{
     at, hash_of, hex, id_of, numbered, order, push_id, quoted, shown, truth, word,
 };
-use crate::error::ProbeError;
-use gx_hash::{Bytes, HashKind, HexError, ObjectId, object_id};
 use std::alloc::Global;
 
 /// The answers to rows on ids. A call may want a kind of ids, an id, or two.

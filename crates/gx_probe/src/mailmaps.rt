@@ -1,8 +1,8 @@
 //! Mailmaps that are asked about many identities.
 
 use crate::actors::resolved;
-use crate::error::ProbeError;
 use gx_actor::{Snapshot, parse_ignore_errors};
+use probe_rows::ProbeError;
 use std::alloc::Global;
 
 /// Reads the size of a mailmap in decimal and a newline, the mailmap, and lines `Name <email>`. Each of these is

@@ -1,12 +1,9 @@
-//! What the libraries say of names, objects, path maps and scripts, for the checks and the benches of this repository.
+//! What the libraries say of names, objects and path maps, for the checks and the benches of this repository.
 #![tactic(auto)]
 
 mod actors;
-mod answers;
 mod commits;
 mod components;
-mod error;
-mod fields;
 mod identities;
 mod ids;
 mod mailmaps;
@@ -14,25 +11,19 @@ mod names;
 mod objects;
 mod paths;
 mod prefixes;
-mod requests;
 mod rows;
-mod scripts;
 mod tags;
 mod trees;
 
-use answers::word;
-use error::ProbeError;
 use gx_hash::HashKind;
-use gx_script::ScriptReader;
-use gx_store::StdSource;
-use scripts::{SCRIPT_LIMIT, Told, Watched};
+use probe_rows::ProbeError;
 use std::alloc::Global;
 use std::env;
 use std::io::{self, Read, Write};
 use std::process::ExitCode;
 
 const USAGE: &str = "usage: gx_probe rows | names | mailmap < INPUT
-       gx_probe (tree | commit | tag | entries | root | paths | script) (sha1 | sha256) < INPUT
+       gx_probe (tree | commit | tag | entries | root | paths) (sha1 | sha256) < INPUT
 
   rows     answers each row: it prints the row again, with the answer of the libraries after its ` = `
   names    judges each line: `full`, `partial` or `no`, as it is a name of a reference
@@ -43,12 +34,11 @@ const USAGE: &str = "usage: gx_probe rows | names | mailmap < INPUT
   entries  counts the entries of a tree
   root     puts the leaf of each line at its path, in turn, and writes the id of the root
   paths    does so, reads the trees of that root, and writes the lines of its path map
-  script   reads a script, and tells each request on a line, and last where the script is wrong, or that it ended
 
 A leaf's line is its mode, a space, its id, a tab, and its path: `git update-index --index-info` reads such lines.
 
 status  0  done
-        1  the input is no such object, of which standard error hears from which byte on, or no such lines or script
+        1  the input is no such object, of which standard error hears from which byte on, or no such lines
         2  the words are not as above
         3  reading or writing failed, or memory ran out
 ";
@@ -73,27 +63,13 @@ enum Job {
     Paths(HashKind),
 }
 
-/// What the words ask for.
-#[derive(Clone, Copy)]
-enum Asked {
-    /// An answer to the whole input.
-    Answer(Job),
-    /// What is told of a script, line by line as it is read.
-    Script(HashKind),
-}
-
 fn main(rt: HostRuntime) -> ExitCode {
     ExitCode::from(status_of(&rt))
 }
 
 fn status_of(rt: &HostRuntime) -> u8 {
     match read_args(rt) {
-        Ok(Some(Asked::Answer(job))) => done(rt, job),
-        Ok(Some(Asked::Script(hash))) => match tell_script(rt, hash) {
-            Ok(true) => 0,
-            Ok(false) => NO_OBJECT,
-            Err(_) => FAILED,
-        },
+        Ok(Some(job)) => done(rt, job),
         Ok(None) => {
             let _heard = eprint!(rt; "{USAGE}");
             BAD_WORDS
@@ -103,7 +79,7 @@ fn status_of(rt: &HostRuntime) -> u8 {
 }
 
 /// What the words after the program's name ask for.
-fn read_args(rt: &HostRuntime) -> io::Result<Option<Asked>> {
+fn read_args(rt: &HostRuntime) -> io::Result<Option<Job>> {
     let mut words = Vec::new(rt.alloc());
     for word in env::args(rt)?.skip(1) {
         words.push(word)?;
@@ -111,21 +87,24 @@ fn read_args(rt: &HostRuntime) -> io::Result<Option<Asked>> {
     Ok(read_words(&words))
 }
 
-fn read_words(words: &[String]) -> Option<Asked> {
+fn read_words(words: &[String]) -> Option<Job> {
     match words {
-        [job] if job.as_str() == "rows" => Some(Asked::Answer(Job::Rows)),
-        [job] if job.as_str() == "names" => Some(Asked::Answer(Job::Names)),
-        [job] if job.as_str() == "mailmap" => Some(Asked::Answer(Job::Mailmap)),
-        [job, kind] if job.as_str() == "script" => Some(Asked::Script(read_kind(kind.as_str())?)),
-        [job, kind] => {
-            let hash = read_kind(kind.as_str())?;
-            Some(Asked::Answer(read_job(job.as_str(), hash)?))
-        }
+        [job] => read_job(job.as_str()),
+        [job, kind] => read_job_of_kind(job.as_str(), read_kind(kind.as_str())?),
         _ => None,
     }
 }
 
-fn read_job(job: &str, hash: HashKind) -> Option<Job> {
+fn read_job(job: &str) -> Option<Job> {
+    match job {
+        "rows" => Some(Job::Rows),
+        "names" => Some(Job::Names),
+        "mailmap" => Some(Job::Mailmap),
+        _ => None,
+    }
+}
+
+fn read_job_of_kind(job: &str, hash: HashKind) -> Option<Job> {
     match job {
         "tree" => Some(Job::Tree(hash)),
         "commit" => Some(Job::Commit(hash)),
@@ -186,35 +165,5 @@ fn answer(alloc: Global, job: Job, input: &[u8]) -> Result<Vec<u8>, ProbeError> 
         Job::Entries(hash) => objects::count_entries(alloc, input, hash),
         Job::Root(hash) => paths::write_root(alloc, input, hash),
         Job::Paths(hash) => paths::reread(alloc, input, hash),
-    }
-}
-
-/// Tells what a script asks for, request by request, and answers whether it was read to its end.
-fn tell_script(rt: &HostRuntime, hash: HashKind) -> Result<bool, ProbeError> {
-    let alloc = rt.alloc();
-    let mut input = Watched::new(StdSource::new(rt.reader()));
-    let mut output = io::writer(rt);
-    let mut reader = ScriptReader::new(alloc, hash, SCRIPT_LIMIT)?;
-    for _ in 0..u64::MAX {
-        match scripts::next(alloc, &mut reader, &mut input)? {
-            Told::Request(line) => tell(&mut output, line)?,
-            Told::Wrong(line) => {
-                tell(&mut output, line)?;
-                return Ok(false);
-            }
-            Told::End => {
-                tell(&mut output, word(alloc, "end")?)?;
-                break;
-            }
-        }
-    }
-    Ok(true)
-}
-
-fn tell(output: &mut impl Write, mut line: Vec<u8>) -> Result<(), ProbeError> {
-    line.push(b'\n')?;
-    match output.write_all(&line) {
-        Ok(()) => Ok(()),
-        Err(_) => Err(ProbeError::Failed),
     }
 }

@@ -1,9 +1,9 @@
 //! Names of references.
 
-use crate::answers::{at, order, push_field, quoted, shown, word};
-use crate::error::ProbeError;
 use gx_hash::NoMemory;
 use gx_rules::{Category, FullName, NameError, PartialName, expand_namespace};
+use probe_rows::ProbeError;
+use probe_rows::answers::{at, order, push_field, quoted, shown, word};
 use std::alloc::Global;
 
 /// A verdict for each line of the input.
@@ -39,12 +39,22 @@ pub fn answer(
     call: &[u8],
     fields: &[Vec<u8>],
 ) -> Result<Option<Vec<u8>>, ProbeError> {
-    match (call, fields) {
-        (_, [name]) => answer_name(alloc, call, name),
-        (b"compare_full_names", [first, second]) => Ok(Some(full_order(alloc, first, second)?)),
-        (b"compare_partial_names", [first, second]) => {
-            Ok(Some(partial_order(alloc, first, second)?))
-        }
+    match fields {
+        [name] => answer_name(alloc, call, name),
+        [first, second] => answer_order(alloc, call, first, second),
+        _ => Ok(None),
+    }
+}
+
+fn answer_order(
+    alloc: Global,
+    call: &[u8],
+    first: &[u8],
+    second: &[u8],
+) -> Result<Option<Vec<u8>>, ProbeError> {
+    match call {
+        b"compare_full_names" => Ok(Some(full_order(alloc, first, second)?)),
+        b"compare_partial_names" => Ok(Some(partial_order(alloc, first, second)?)),
         _ => Ok(None),
     }
 }
@@ -115,17 +125,16 @@ fn answer_partial(alloc: Global, call: &[u8], name: &[u8]) -> Result<Vec<u8>, Pr
 fn partial_name(alloc: Global, call: &[u8], name: &PartialName) -> Result<Vec<u8>, ProbeError> {
     match call {
         b"namespace" => quoted(alloc, expand_namespace(alloc, name)?.as_slice()),
-        b"namespace_copy" => quoted(
-            alloc,
-            expand_namespace(alloc, name)?
-                .try_clone()?
-                .as_bstr()
-                .as_bytes(),
-        ),
+        b"namespace_copy" => namespace_copy(alloc, name),
         b"partial_name_copy" => quoted(alloc, name.try_clone()?.as_slice()),
         b"partial_name_clone" => quoted(alloc, name.clone()?.as_slice()),
         _ => quoted(alloc, name.as_slice()),
     }
+}
+
+fn namespace_copy(alloc: Global, name: &PartialName) -> Result<Vec<u8>, ProbeError> {
+    let namespace = expand_namespace(alloc, name)?;
+    quoted(alloc, namespace.try_clone()?.as_bstr().as_bytes())
 }
 
 fn full_order(alloc: Global, first: &[u8], second: &[u8]) -> Result<Vec<u8>, ProbeError> {

@@ -1,11 +1,11 @@
 //! Objects as they are read, and as they are written again.
 
-use crate::answers::{numbered, push_field, push_id, push_word, quoted, word};
-use crate::error::ProbeError;
 use gx_hash::{Bytes, HashKind, ObjectId, object_id};
 use gx_object::{
     CommitRef, EncodeError, Field, Kind, SignatureRef, TagRef, TreeRef, TreeRefIter, WriteTo,
 };
+use probe_rows::ProbeError;
+use probe_rows::answers::{numbered, push_field, push_id, push_word, quoted, word};
 use std::alloc::Global;
 
 /// The tree that the bytes spell, as it is written.

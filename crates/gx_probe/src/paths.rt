@@ -1,27 +1,9 @@
-use crate::error::ProbeError;
-use gx_edit::{EditError, PathMap, read_map, write_plain};
+use gx_edit::{PathMap, read_map, write_plain};
 use gx_hash::{HashKind, NoMemory, ObjectId};
 use gx_object::EntryKind;
-use gx_store::{Memory, StoreError};
+use gx_store::Memory;
+use probe_rows::ProbeError;
 use std::alloc::Global;
-
-impl From<EditError> for ProbeError {
-    fn from(error: EditError) -> ProbeError {
-        match error {
-            EditError::NoMemory => ProbeError::NoMemory,
-            _ => ProbeError::Unwritable,
-        }
-    }
-}
-
-impl From<StoreError> for ProbeError {
-    fn from(error: StoreError) -> ProbeError {
-        match error {
-            StoreError::NoMemory => ProbeError::NoMemory,
-            StoreError::Fault { .. } => ProbeError::Unwritable,
-        }
-    }
-}
 
 /// The root of the path map that the lines list, on a line.
 pub fn write_root(alloc: Global, input: &[u8], hash: HashKind) -> Result<Vec<u8>, ProbeError> {

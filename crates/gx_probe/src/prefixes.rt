@@ -1,8 +1,8 @@
 //! Rows on prefixes of ids.
 
-use crate::answers::{at, id_of, numbered, order, push_id, shown, size_of};
-use crate::error::ProbeError;
 use gx_hash::{Prefix, PrefixError};
+use probe_rows::ProbeError;
+use probe_rows::answers::{at, id_of, numbered, order, push_id, shown, size_of};
 use std::alloc::Global;
 
 /// The answers to rows on prefixes of ids.
@@ -11,12 +11,31 @@ pub fn answer(
     call: &[u8],
     fields: &[Vec<u8>],
 ) -> Result<Option<Vec<u8>>, ProbeError> {
-    match (call, fields) {
-        (b"prefix", [digits]) => Ok(Some(outcome(alloc, Prefix::from_hex(digits))?)),
-        (b"prefix_text", [digits]) => Ok(Some(text(alloc, Prefix::from_hex(digits))?)),
-        (b"prefix_of", [id, len]) => answer_prefix_of(alloc, id, len),
-        (b"whole_prefix", [id]) => answer_whole_prefix(alloc, id),
-        (b"compare_prefix", [digits, id]) => answer_order(alloc, digits, id),
+    match fields {
+        [first] => answer_to_one(alloc, call, first),
+        [first, second] => answer_to_two(alloc, call, first, second),
+        _ => Ok(None),
+    }
+}
+
+fn answer_to_one(alloc: Global, call: &[u8], first: &[u8]) -> Result<Option<Vec<u8>>, ProbeError> {
+    match call {
+        b"prefix" => Ok(Some(outcome(alloc, Prefix::from_hex(first))?)),
+        b"prefix_text" => Ok(Some(text(alloc, Prefix::from_hex(first))?)),
+        b"whole_prefix" => answer_whole_prefix(alloc, first),
+        _ => Ok(None),
+    }
+}
+
+fn answer_to_two(
+    alloc: Global,
+    call: &[u8],
+    first: &[u8],
+    second: &[u8],
+) -> Result<Option<Vec<u8>>, ProbeError> {
+    match call {
+        b"prefix_of" => answer_prefix_of(alloc, first, second),
+        b"compare_prefix" => answer_order(alloc, first, second),
         _ => Ok(None),
     }
 }

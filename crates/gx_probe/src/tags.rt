@@ -1,15 +1,15 @@
 //! Rows on tags. A tag that is written is told by its target's id and kind, its name, its tagger by four fields or
 //! the one field `none`, its message, and its signature or `none`.
 
-use crate::answers::{again, hash_of, hex, id_of, push_failure, push_field, push_word, word};
 use crate::commits::text_of;
-use crate::error::ProbeError;
-use crate::identities::identity_of;
+use crate::identities::identity_in;
 use crate::objects::{
     Cuts, push_named_id, push_part, push_who, rewrite_tag, size_and_id, spelled, texts,
 };
 use gx_hash::{Bytes, HashKind};
 use gx_object::{Kind, Signature, Tag, TagRef, TagRefIter, TagToken, WriteTo};
+use probe_rows::ProbeError;
+use probe_rows::answers::{again, hash_of, hex, id_of, push_failure, push_field, push_word, word};
 use std::alloc::Global;
 
 /// The answers to rows on tags.
@@ -21,10 +21,12 @@ pub fn answer(
     let [hash, fields @ ..] = fields else {
         return Ok(None);
     };
-    match (hash_of(hash), fields) {
-        (Some(hash), [bytes]) => answer_read(alloc, call, hash, bytes),
-        (Some(hash), fields) => answer_written(alloc, call, hash, fields),
-        _ => Ok(None),
+    let Some(hash) = hash_of(hash) else {
+        return Ok(None);
+    };
+    match fields {
+        [bytes] => answer_read(alloc, call, hash, bytes),
+        _ => answer_written(alloc, call, hash, fields),
     }
 }
 
@@ -36,19 +38,21 @@ fn answer_read(
 ) -> Result<Option<Vec<u8>>, ProbeError> {
     match call {
         b"tag" => Ok(Some(read_tag(alloc, hash, bytes)?)),
-        b"tag_again" => {
-            let written = rewrite_tag(alloc, bytes, hash)?;
-            Ok(Some(again(alloc, bytes, &written)?))
-        }
+        b"tag_again" => Ok(Some(read_again(alloc, hash, bytes)?)),
         b"tag_items" => Ok(Some(items(alloc, hash, bytes)?)),
         b"tag_cuts" => Ok(Some(cuts(alloc, hash, bytes)?)),
-        b"tag_target" => {
-            let id = TagRefIter::from_bytes(bytes, hash).target_id()?;
-            Ok(Some(hex(alloc, &id)?))
-        }
+        b"tag_target" => Ok(Some(target(alloc, hash, bytes)?)),
         b"tag_tagger" => Ok(Some(tagger(alloc, hash, bytes)?)),
         _ => Ok(None),
     }
+}
+
+fn read_again(alloc: Global, hash: HashKind, bytes: &[u8]) -> Result<Vec<u8>, ProbeError> {
+    again(alloc, bytes, &rewrite_tag(alloc, bytes, hash)?)
+}
+
+fn target(alloc: Global, hash: HashKind, bytes: &[u8]) -> Result<Vec<u8>, ProbeError> {
+    hex(alloc, &TagRefIter::from_bytes(bytes, hash).target_id()?)
 }
 
 fn read_tag(alloc: Global, hash: HashKind, bytes: &[u8]) -> Result<Vec<u8>, ProbeError> {
@@ -130,40 +134,32 @@ fn answer_written(
 }
 
 fn tag_of(alloc: Global, fields: &[Vec<u8>]) -> Result<Option<Tag>, ProbeError> {
+    let Some((places, fields)) = fields.split_at_checked(3) else {
+        return Ok(None);
+    };
     match fields {
-        [target, kind, name, tagger, message, signature]
-            if tagger.as_slice() == b"none".as_slice() => {
-            make_tag(alloc, target, kind, name, None, message, signature)
+        [tagger, message, signature] if tagger.as_slice() == b"none".as_slice() => {
+            make_tag(alloc, places, None, message, signature)
         }
-        [
-            target,
-            kind,
-            name,
-            who,
-            email,
-            seconds,
-            offset,
-            message,
-            signature,
-        ] => {
-            let Some(tagger) = identity_of(alloc, who, email, seconds, offset)? else {
-                return Ok(None);
-            };
-            make_tag(alloc, target, kind, name, Some(tagger), message, signature)
-        }
+        [tagger @ .., message, signature] => match identity_in(alloc, tagger)? {
+            Some(tagger) => make_tag(alloc, places, Some(tagger), message, signature),
+            None => Ok(None),
+        },
         _ => Ok(None),
     }
 }
 
+/// The tag of the fields of its target, its target's kind and its name, and of these.
 fn make_tag(
     alloc: Global,
-    target: &[u8],
-    kind: &[u8],
-    name: &[u8],
+    places: &[Vec<u8>],
     tagger: Option<Signature>,
     message: &[u8],
     signature: &[u8],
 ) -> Result<Option<Tag>, ProbeError> {
+    let [target, kind, name] = places else {
+        return Ok(None);
+    };
     let (Some(target), Some(target_kind)) = (id_of(target), Kind::from_bytes(kind)) else {
         return Ok(None);
     };

@@ -1,14 +1,14 @@
 //! Rows on trees, their entries and their modes. An entry's fields are its mode in octal, its name and its id.
 
-use crate::answers::{
-    again, hash_of, id_of, push_failure, push_field, push_id, push_word, quoted, shown, word,
-};
-use crate::error::ProbeError;
 use crate::objects::{Cuts, rewrite_tree, size_and_id, spelled};
 use gx_hash::{Bytes, HashKind};
 use gx_object::{
     Blob, Entries, Entry, EntryKind, EntryMode, EntryRef, Kind, Tree, TreeRef, TreeRefIter,
     WriteTo, push_entry, push_tree,
+};
+use probe_rows::ProbeError;
+use probe_rows::answers::{
+    again, hash_of, id_of, push_failure, push_field, push_id, push_word, quoted, shown, word,
 };
 use std::alloc::Global;
 
@@ -18,17 +18,19 @@ pub fn answer(
     call: &[u8],
     fields: &[Vec<u8>],
 ) -> Result<Option<Vec<u8>>, ProbeError> {
-    match (call, fields) {
-        (b"encode_message", [name]) => answer_encode_message(alloc, name),
-        (b"mode", [digits]) => answer_mode(alloc, digits),
-        (b"mode_of", [name]) => Ok(Some(answer_mode_of(alloc, name)?)),
-        (b"kind", [name]) => Ok(Some(answer_kind(alloc, name)?)),
-        (b"entry", [mode, name, id]) => answer_entry(alloc, mode, name, id),
-        (_, [hash, fields @ ..]) => match hash_of(hash) {
-            Some(hash) => answer_in(alloc, call, hash, fields),
+    let [first, others @ ..] = fields else {
+        return Ok(None);
+    };
+    match call {
+        b"encode_message" => answer_encode_message(alloc, first),
+        b"mode" => answer_mode(alloc, first),
+        b"mode_of" => Ok(Some(answer_mode_of(alloc, first)?)),
+        b"kind" => Ok(Some(answer_kind(alloc, first)?)),
+        b"entry" => answer_entry(alloc, fields),
+        _ => match hash_of(first) {
+            Some(hash) => answer_in(alloc, call, hash, others),
             None => Ok(None),
         },
-        _ => Ok(None),
     }
 }
 
@@ -38,21 +40,36 @@ fn answer_in(
     hash: HashKind,
     fields: &[Vec<u8>],
 ) -> Result<Option<Vec<u8>>, ProbeError> {
-    match (call, fields) {
-        (b"write_tree", entries) => answer_written(alloc, entries),
-        (b"push_tree", entries) => answer_pushed(alloc, entries),
-        (b"blob_id", [bytes]) => Ok(Some(blob_id(alloc, hash, bytes)?)),
-        (b"tree_id", entries) => answer_tree_id(alloc, hash, entries),
-        (b"tree", [bytes]) => Ok(Some(read_tree(alloc, hash, bytes)?)),
-        (b"tree_items", [bytes]) => Ok(Some(items(alloc, hash, bytes)?)),
-        (b"tree_again", [bytes]) => {
-            let written = rewrite_tree(alloc, bytes, hash)?;
-            Ok(Some(again(alloc, bytes, &written)?))
-        }
-        (b"decode_message", [bytes]) => decode_message(alloc, hash, bytes),
-        (b"tree_cuts", [bytes]) => Ok(Some(cuts(alloc, hash, bytes)?)),
+    match call {
+        b"write_tree" => answer_written(alloc, fields),
+        b"push_tree" => answer_pushed(alloc, fields),
+        b"tree_id" => answer_tree_id(alloc, hash, fields),
+        _ => match fields {
+            [bytes] => answer_read(alloc, call, hash, bytes),
+            _ => Ok(None),
+        },
+    }
+}
+
+fn answer_read(
+    alloc: Global,
+    call: &[u8],
+    hash: HashKind,
+    bytes: &[u8],
+) -> Result<Option<Vec<u8>>, ProbeError> {
+    match call {
+        b"blob_id" => Ok(Some(blob_id(alloc, hash, bytes)?)),
+        b"tree" => Ok(Some(read_tree(alloc, hash, bytes)?)),
+        b"tree_items" => Ok(Some(items(alloc, hash, bytes)?)),
+        b"tree_again" => Ok(Some(read_again(alloc, hash, bytes)?)),
+        b"decode_message" => decode_message(alloc, hash, bytes),
+        b"tree_cuts" => Ok(Some(cuts(alloc, hash, bytes)?)),
         _ => Ok(None),
     }
+}
+
+fn read_again(alloc: Global, hash: HashKind, bytes: &[u8]) -> Result<Vec<u8>, ProbeError> {
+    again(alloc, bytes, &rewrite_tree(alloc, bytes, hash)?)
 }
 
 fn read_tree(alloc: Global, hash: HashKind, bytes: &[u8]) -> Result<Vec<u8>, ProbeError> {
@@ -132,10 +149,7 @@ fn answer_tree_id(
 fn tree_of(alloc: Global, fields: &[Vec<u8>]) -> Result<Option<Tree>, ProbeError> {
     let mut entries = Vec::new(alloc);
     for fields in fields.chunks(3) {
-        let [mode, name, id] = fields else {
-            return Ok(None);
-        };
-        match entry_of(alloc, mode, name, id)? {
+        match entry_of(alloc, fields)? {
             Some(entry) => entries.push(entry)?,
             None => return Ok(None),
         }
@@ -145,12 +159,11 @@ fn tree_of(alloc: Global, fields: &[Vec<u8>]) -> Result<Option<Tree>, ProbeError
     }))
 }
 
-fn entry_of(
-    alloc: Global,
-    mode: &[u8],
-    name: &[u8],
-    id: &[u8],
-) -> Result<Option<Entry>, ProbeError> {
+/// The entry that three fields are.
+fn entry_of(alloc: Global, fields: &[Vec<u8>]) -> Result<Option<Entry>, ProbeError> {
+    let [mode, name, id] = fields else {
+        return Ok(None);
+    };
     let (Some(mode), Some(oid)) = (mode_from(mode), id_of(id)) else {
         return Ok(None);
     };
@@ -167,13 +180,8 @@ fn mode_from(digits: &[u8]) -> Option<EntryMode> {
 }
 
 /// The bytes of the entry alone, whatever its name is.
-fn answer_entry(
-    alloc: Global,
-    mode: &[u8],
-    name: &[u8],
-    id: &[u8],
-) -> Result<Option<Vec<u8>>, ProbeError> {
-    let Some(entry) = entry_of(alloc, mode, name, id)? else {
+fn answer_entry(alloc: Global, fields: &[Vec<u8>]) -> Result<Option<Vec<u8>>, ProbeError> {
+    let Some(entry) = entry_of(alloc, fields)? else {
         return Ok(None);
     };
     let mut out = Vec::new(alloc);

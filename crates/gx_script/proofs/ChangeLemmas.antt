@@ -80,7 +80,7 @@ put_says hash room line kind size path open_line e le fits =
     let two : NoNewline (decimal size ++ 32 ∷ path) = (without_back 10 (put_word kind) (32 ∷ (decimal size ++ 32 ∷ path)) one).1 in
     (omega arith, le, fits, (without_back 10 (decimal size) (32 ∷ path) two).1, e)
 
--- Behind fewer edits than the limit a line says what it says behind none.
+-- After fewer edits than the limit a line says what it says after none.
 pub edit_says : (hash : HashKind) (count room : ℕ) (next : Change) (line : List ℕ) → count < edit_limit → SaysChange hash 0 room next line → SaysChange hash count room next line
 edit_says hash count room (change.Put kind size path) line few s = (few, s.1, s.2, s.3, s.4)
 edit_says hash count room (change.Whole edit) line few s = (few, s.1, s.2)

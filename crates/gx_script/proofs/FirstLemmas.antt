@@ -1,4 +1,4 @@
--- From the first line of a request and what stands behind it to the request.
+-- From the first line of a request and what stands after it to the request.
 use Rattle.std.proofs.Common.{◌≡◌, ◌∙◌, sym, ap, refl, ℕ, ◌≤◌, List, [], ◌∷◌, length, Option, arith}
 use Rattle.gx_hash.specs.declared.oid.ObjectId.{ObjectId}
 use Rattle.gx_object.specs.declared.kind.Kind.{Kind}

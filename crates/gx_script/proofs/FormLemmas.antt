@@ -90,7 +90,7 @@ hidden_open false = tt
 walk_id_open : (hash : HashKind) (walked : WalkId) → IsId hash walked.id → NoNewline (walk_id_text walked)
 walk_id_open hash walked h = without_append 10 (hidden_text walked.hidden) (hex_of walked.id) (hidden_open walked.hidden) (hex_open hash walked.id h)
 
--- A message and the end behind it.
+-- A message and the end after it.
 text_lead : (hash : HashKind) (m : List ℕ) → length m ≤ block_limit → Leads hash (AtText (length m)) (Block m ∷ Line end_line ∷ []) AtOver
 text_lead hash m le = ((refl, le), (end_good hash, refl))
 

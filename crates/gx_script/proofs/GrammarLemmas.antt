@@ -1,4 +1,4 @@
--- From a state on, bytes are read in one way only, and what goes wrong behind good items goes wrong before them.
+-- From a state on, bytes are read in one way only, and what goes wrong after good items goes wrong before them.
 use Rattle.std.proofs.Common.{◌≡◌, ◌∙◌, sym, ap, refl, subst, ℕ, ◌+◌, ◌-◌, ◌^◌, ◌≤◌, min, List, [], ◌∷◌, ◌++◌, length, take, drop, arith, append_assoc, length-append, Option, inl, inr}
 use Rattle.std.proofs.lemmas.List.{append-nil, take_at, drop_at}
 use Rattle.std.proofs.lemmas.Grind.{flat_map-append}
@@ -174,7 +174,7 @@ bad_after hash q r before a b l m k leads p line bytes (newlines, bad, e) = (
     line_is : min (b.newlines + newlines + 1) (2 ^ 64 - 1) ≡ min (a.newlines + (newlines_in (items_text before) + newlines) + 1) (2 ^ 64 - 1)
     line_is = omega (arith, p.newlines)
 
--- A failure behind good items is one before them.
+-- A failure after good items is one before them.
 pub fails_behind : (q r : State) (before : List Item) (a b : Reading) (l m k : Option (List ℕ)) (f g h : ℕ) (e : ScriptError) → Leads a.hash q before r → Moves a b l m (items_text before) → f ≤ g → FailsFrom r b m k g h e → FailsFrom q a l k f h e
 fails_behind q r before a b l m k f g h e leads p le fails =
     fails_after (BeginsFrom a.hash q) (BeginsFrom a.hash r) (BadFromAt q a k) (λ line bytes. (newlines : ℕ) × IsBadFrom a.hash r bytes (IsEnd k) newlines × (line ≡ line_number b newlines)) a b l m k f g h (items_text before) e p

@@ -17,7 +17,7 @@ use Rattle.gx_script.proofs.OneRequest.{same_request}
 alike : (hash : HashKind) (r s : Request) → IsRequest hash r → IsRequest hash s → AreAlike (items_of r) (items_of s)
 alike hash r s p q = leads_alike hash AtFirst (items_of r) (items_of s) (request_leads hash r p) (request_leads hash s q)
 
--- At the front of the same bytes stands the same item, and behind it the same rest.
+-- At the front of the same bytes stands the same item, and after it the same rest.
 first_item : (x y : Item) (xs ys : List Item) (a b : List ℕ) → SameKind x y → items_text (x ∷ xs) ++ a ≡ items_text (y ∷ ys) ++ b → (x ≡ y) × (items_text xs ++ a ≡ items_text ys ++ b)
 first_item x y xs ys a b k e = same_item x y (items_text xs ++ a) (items_text ys ++ b) k (sym (append_assoc (item_text x) (items_text xs) a) ∙ e ∙ append_assoc (item_text y) (items_text ys) b)
 

@@ -102,7 +102,7 @@ newline_first bytes (Some k) found = record {
   long = length-take-le k bytes (omega (arith, found.0.high));
 }
 
--- the rest of a line behind what was scanned
+-- the rest of a line after what was scanned
 pub found_line : (held bytes : List ℕ) (scanned count : ℕ) → bytes ≡ drop scanned held → scanned ≤ length held → NoNewline (take scanned held) → BeginsLine bytes count → BeginsLine held (scanned + count)
 found_line held bytes scanned count e le p l = record {
   line = take scanned held ++ l.line;
@@ -248,7 +248,7 @@ line_held held size found =
     let line : take size held ≡ found.line = ap (take size) found.split ∙ take_at found.line (10 ∷ found.more) size found.long in
     (subst NoNewline (sym line) found.open_line, ap length line ∙ found.long)
 
--- a block and the newline behind it are given
+-- a block and the newline after it are given
 pub block_given : (a b c d : Reading) (l m : Option (List ℕ)) (count : ℕ) (block : List ℕ) → Moves a b l m [] → count < length b.held → get_or b.held count 0 ≡ 10 → block ≡ take count b.held → c ≡ given b count → d ≡ given c 1 → (length block ≡ count) × Moves a d l m (ended block)
 block_given a b c d l m count block p lt is e new newer =
     let rest : take 1 c.held ≡ 10 ∷ [] = ap (λ (r : Reading). take 1 r.held) new ∙ ap (take 1) (drop_more b.held count 0 lt) ∙ ap (λ x. x ∷ []) is in

@@ -32,7 +32,7 @@ use Rattle.gx_script.proofs.IdLemmas.{hex_space}
 use Rattle.gx_script.proofs.NameLemmas.{partial_space}
 use Rattle.gx_script.proofs.StateLemmas.{message_then, nobody_then, person_then, parent_then, parents_then, put_then, note_size_is}
 
--- The state behind what a line says.
+-- The state after what a line says.
 abbrev pub parent_state : ℕ → ParentLine → State
 parent_state k (parent_line.Parent id) = AtParent (k + 1)
 parent_state k (parent_line.Message size) = AtContent size
@@ -245,7 +245,7 @@ edits_within (suc n) hash ((Line l) ∷ xs) c r small le p =
 edits_are : (hash : HashKind) (xs : List Item) (c r : ℕ) → c ≤ edit_limit → Leads hash (AtEdit c r) xs AtOver → EditsAre hash c xs
 edits_are hash xs c r le p = edits_within (length xs) hash xs c r (omega arith) le p
 
--- The parents of a commit, and what stands behind them.
+-- The parents of a commit, and what stands after them.
 record ContentIs (hash : HashKind) (n : ℕ) (xs : List Item) : Type 0 where
   message : List ℕ
   size : length message ≡ n

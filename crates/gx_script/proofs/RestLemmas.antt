@@ -139,7 +139,7 @@ malformed_of hash bytes wrong = record {
   whole = λ r rest fits e. wrong (items_of r) (request_leads hash r fits) (subst (Stands (items_of r)) (sym e) (stands_whole (items_of r) rest));
 }
 
--- A failure behind the first line is one of the request.
+-- A failure after the first line is one of the request.
 bad_of : (hash : HashKind) (a b : Reading) (l m k : Option (List ℕ)) (line text : List ℕ) (q : State) → Leads hash AtFirst (Line line ∷ []) q → Moves a b l m (ended line)
     → (at_ : ℕ) (bytes : List ℕ) → (newlines : ℕ) × IsBadFrom hash q bytes (IsEnd k) newlines × (at_ ≡ line_number b newlines) → (newlines : ℕ) × IsBad hash (ended line ++ bytes) (IsEnd k) newlines × (at_ ≡ line_number a newlines)
 bad_of hash a b l m k line text q leads p at_ bytes (newlines, bad, e) = (

@@ -16,7 +16,7 @@ use Rattle.gx_script.proofs.IdLemmas.{hex_space}
 use Rattle.gx_script.proofs.LineLemmas.{without_back}
 use Rattle.gx_script.proofs.SpacedLemmas.{same_cut, spaced_tail, spaced_long, same_fields}
 
--- The first field behind a word, and the fields behind it.
+-- The first field after a word, and the fields after it.
 cut_same : (word line fields field rest first more : List ℕ) → line ≡ word ++ fields → CutsField fields field rest → Without 32 first → IsTail more → line ≡ word ++ 32 ∷ (first ++ more) → (field ≡ first) × (rest ≡ more)
 cut_same word line fields field rest first more is cut whole tail e =
     let behind : fields ≡ 32 ∷ (first ++ more) = append_cancel_left word fields (32 ∷ (first ++ more)) (sym is ∙ e) in

@@ -30,7 +30,7 @@ all_more : {X : Type 0} (Fits : X → Type 0) (xs : List X) (x : X) → AllByRec
 all_more Fits [] x p q = (q, tt)
 all_more Fits (y ∷ xs) x p q = (p.0, all_more Fits xs x p.1 q)
 
--- What stands behind the fields that were read.
+-- What stands after the fields that were read.
 pub record Behind {X : Type 0} (text : X → List ℕ) (Fits : X → Type 0) (most : ℕ) (xs : List X) (rest : List ℕ) : Type 0 where
   pub values : List X
   pub each : AllByRecursion Fits values
@@ -66,7 +66,7 @@ spaced_next text Fits most bytes xs x rest field more whole h cut e fits lt = re
   only = λ ys all. next_behind text Fits most xs x rest field more whole cut (h.only ys all);
 }
 
--- What stands behind is no list of fields.
+-- What stands after is no list of fields.
 pub spaced_stops : {X : Type 0} (text : X → List ℕ) (Fits : X → Type 0) (most : ℕ) (bytes : List ℕ) (xs : List X) (rest : List ℕ) → ReadsSpaced text Fits most bytes xs rest → rest ≢ [] → IsNotBehind (32 ∷ []) rest → AreNotSpaced text Fits most bytes
 spaced_stops {X} text Fits most bytes xs rest h some none ys all = let b = h.only ys all in go b.values b.is
   where

@@ -1,4 +1,4 @@
--- What stands behind a prefix or a first byte.
+-- What stands after a prefix or a first byte.
 use Rattle.std.proofs.Common.{◌≡◌, ◌≢◌, ◌∙◌, sym, ap, ℕ, ◌+◌, ◌<◌, List, ◌∷◌, ◌++◌, length, take, drop, get_or, arith, [], refl, subst, eq-eqb, take-append-drop, Some, None}
 use Rattle.std.proofs.lemmas.Bool.{eqb-true}
 use Rattle.std.proofs.lemmas.List.{append-nil, drop_more, get_or_default, get_or-take, length-take}

@@ -1,4 +1,4 @@
--- What comes behind each line, and that each state can be gone on from.
+-- What comes after each line, and that each state can be gone on from.
 use Rattle.std.proofs.Common.{◌≡◌, ◌∙◌, sym, ap, refl, subst, ℕ, pos, ◌+◌, ◌-◌, ◌≤◌, List, [], ◌∷◌, ◌++◌, length, codes, replicate, arith, length-append, inl, inr}
 use Rattle.std.specs.Fmt.{decimal}
 use Rattle.std.specs.Str.Parse.{digits_value}

@@ -37,7 +37,7 @@ module_line id path = codes "module " ++ (hex_of id ++ 32 ∷ path)
 abbrev pub drop_line : List ℕ → List ℕ
 drop_line path = codes "drop " ++ path
 
--- The line of an edit, and behind that of a file or a link the block of its bytes.
+-- The line of an edit, and after that of a file or a link the block of its bytes.
 abbrev pub edit_items : PathEdit → List Item
 edit_items (File path bytes executable) = Line (put_line (file_word executable) (length bytes) path) ∷ Block bytes ∷ []
 edit_items (Link path bytes) = Line (put_line (codes "link") (length bytes) path) ∷ Block bytes ∷ []

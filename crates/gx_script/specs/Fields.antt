@@ -79,7 +79,7 @@ abbrev pub IsTarget : HashKind → Target → Type 0
 IsTarget hash (Object id) = IsId hash id
 IsTarget hash (Symbolic name) = IsFullName name
 
--- A target that is wanted stands behind `=`, and behind `?` where the reference may also be absent.
+-- A target that is wanted stands after `=`, and after `?` where the reference may also be absent.
 abbrev pub expect_text : Expect → List ℕ
 expect_text Any = codes "any"
 expect_text Exists = codes "exists"

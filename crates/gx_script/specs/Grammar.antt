@@ -94,7 +94,7 @@ abbrev pub SaysPerson : List ℕ → PersonLine → List ℕ → Type 0
 SaysPerson word (person_line.Who who) line = SaysWho word who line
 SaysPerson word (person_line.Message size) line = SaysMessage size line
 
--- A parent behind so many, or behind the last the length of the message.
+-- A parent after this many, or after the last the length of the message.
 abbrev pub SaysParent : HashKind → ℕ → ParentLine → List ℕ → Type 0
 SaysParent hash count (Parent id) line = (count < parent_limit) × IsId hash id × (line ≡ codes "parent " ++ hex_of id)
 SaysParent hash count (Message size) line = SaysMessage size line
@@ -111,7 +111,7 @@ edit_of File path bytes = path_edit.File path bytes false
 edit_of Executable path bytes = path_edit.File path bytes true
 edit_of Link path bytes = path_edit.Link path bytes
 
--- An edit behind so many, of which the block may have so many bytes, or the end of the request.
+-- An edit after this many, of which the block may have this many bytes, or the end of the request.
 abbrev pub SaysChange : HashKind → ℕ → ℕ → Change → List ℕ → Type 0
 SaysChange hash count room (Put kind size path) line = (count < edit_limit) × (size ≤ block_limit) × (size ≤ room) × NoNewline path × (line ≡ put_line (put_word kind) size path)
 SaysChange hash count room (Whole edit) line = (count < edit_limit) × IsEdit hash edit × (edit_items edit ≡ Line line ∷ [])
@@ -137,7 +137,7 @@ Goes hash AtEnd line = line ≡ end_line
 Goes hash (AtNote size) line = ⊥
 Goes hash AtOver line = ⊥
 
--- A block of so many bytes comes next.
+-- A block of this many bytes comes next.
 abbrev pub Wants : State → ℕ → Type 0
 Wants AtFirst size = ⊥
 Wants AtAuthor size = ⊥
@@ -164,12 +164,12 @@ abbrev pub Good : HashKind → State → Item → Type 0
 Good hash state (Line line) = GoodLine hash state line
 Good hash state (Block block) = Wants state (length block)
 
--- The first field, and what stands behind it.
+-- The first field, and what stands after it.
 abbrev pub before_space : List ℕ → List ℕ
 before_space [] = []
 before_space (b ∷ rest) = if nat_eq b 32 then [] else b ∷ before_space rest
 
--- What stands behind the first space.
+-- What stands after the first space.
 abbrev pub behind_space : List ℕ → List ℕ
 behind_space [] = []
 behind_space (b ∷ rest) = if nat_eq b 32 then rest else behind_space rest
@@ -190,7 +190,7 @@ put_size line = digits_value 10 (before_space (drop 9 line))
 abbrev pub note_size : List ℕ → ℕ
 note_size line = digits_value 10 (behind_space (behind_space (drop 9 line)))
 
--- What may come behind a line, which its first word tells.
+-- What may come after a line, which its first word tells.
 abbrev pub after_first : List ℕ → State
 after_first line =
     if begins_with line (codes "commit ") then AtAuthor
@@ -199,22 +199,22 @@ after_first line =
     else if begins_with line (codes "note-set ") then AtNote (note_size line)
     else AtOver
 
--- Behind the parents comes the message.
+-- After the parents comes the message.
 abbrev pub after_parent : ℕ → List ℕ → State
 after_parent count line = if begins_with line (codes "parent ") then AtParent (count + 1) else AtContent (message_size line)
 
--- Behind the person, who may be left out, comes the message.
+-- After the person, who may be left out, comes the message.
 abbrev pub after_person : List ℕ → List ℕ → State
 after_person word line = if begins_with line word then AtMessage else AtText (message_size line)
 
--- Behind an edit comes its block, another edit, or the end.
+-- After an edit comes its block, another edit, or the end.
 abbrev pub after_change : ℕ → ℕ → List ℕ → State
 after_change count room line =
     if begins_with line (codes "put ") then AtFile (put_size line) (count + 1) (room - put_size line)
     else if begins_with line (codes "end") then AtOver
     else AtEdit (count + 1) room
 
--- What may come behind a line.
+-- What may come after a line.
 abbrev pub after_line : State → List ℕ → State
 after_line AtFirst line = after_first line
 after_line AtAuthor line = AtCommitter
@@ -230,7 +230,7 @@ after_line AtEnd line = AtOver
 after_line (AtNote size) line = AtOver
 after_line AtOver line = AtOver
 
--- What may come behind a block.
+-- What may come after a block.
 abbrev pub after_block : State → State
 after_block AtFirst = AtOver
 after_block AtAuthor = AtOver
@@ -246,7 +246,7 @@ after_block AtEnd = AtOver
 after_block (AtNote size) = AtOver
 after_block AtOver = AtOver
 
--- What may come behind a line or block.
+-- What may come after a line or block.
 abbrev pub after : State → Item → State
 after state (Line line) = after_line state line
 after state (Block block) = after_block state
@@ -275,12 +275,12 @@ Stands (y ∷ ys) bytes = IsPart y bytes ⊎ ((more : List ℕ) × (bytes ≡ it
 abbrev pub IsWrongFrom : HashKind → State → List ℕ → Type 0
 IsWrongFrom hash state bytes = (items : List Item) → Leads hash state items AtOver → Stands items bytes → ⊥
 
--- Behind the front the input ends, or the next byte is wrong.
+-- After the front the input ends, or the next byte is wrong.
 abbrev pub StopsFrom : HashKind → State → Type 0 → List ℕ → List ℕ → Type 0
 StopsFrom hash state ends front [] = ends
 StopsFrom hash state ends front (b ∷ more) = IsWrongFrom hash state (front ++ b ∷ [])
 
--- From the state on the bytes go wrong behind a front that may stand there.
+-- From the state on the bytes go wrong after a front that may stand there.
 pub record IsBadFrom (hash : HashKind) (state : State) (bytes : List ℕ) (ends : Type 0) (newlines : ℕ) : Type 0 where
   pub front : List ℕ
   pub more : List ℕ
@@ -320,7 +320,7 @@ ReadsFirst old new left left' faults faults' (Ok (Some opening)) = GivesLine (Sa
 ReadsFirst old new left left' faults faults' (Ok None) = IsFinished old new left left'
 ReadsFirst old new left left' faults faults' (Err e) = LineFails (λ front. IsEnd left' × (front ≢ [])) (IsNo (SaysOpening old.hash)) old left left' faults faults' e
 
--- What may come behind a first line.
+-- What may come after a first line.
 abbrev pub after_opening : Opening → State
 after_opening (OneLine request) = AtOver
 after_opening (Commit name) = AtAuthor
@@ -328,7 +328,7 @@ after_opening (Tag name target kind) = AtPerson tagger_word
 after_opening (Ref name target expect) = AtPerson committer_word
 after_opening (NoteSet reference object size) = AtNote size
 
--- The rest of a request was read, behind its first line.
+-- The rest of a request was read, after its first line.
 pub record ReadsRest (opening : Opening) (old new : Reading) (left left' : Option (List ℕ)) (request : Request) : Type 0 where
   pub tail : List Item
   pub items : (line : List ℕ) → opens_with opening line → items_of request ≡ Line line ∷ tail
@@ -336,12 +336,12 @@ pub record ReadsRest (opening : Opening) (old new : Reading) (left left' : Optio
   pub leads : Leads old.hash (after_opening opening) tail AtOver
   pub moves : Moves old new left left' (items_text tail)
 
--- A request was read behind its first line, or why not.
+-- A request was read after its first line, or why not.
 abbrev pub ReadsBehind : Opening → Reading → Reading → Option (List ℕ) → Option (List ℕ) → ℕ → ℕ → Result Request ScriptError → Type 0
 ReadsBehind opening old new left left' faults faults' (Ok request) = ReadsRest opening old new left left' request
 ReadsBehind opening old new left left' faults faults' (Err e) = FailsFrom (after_opening opening) old left left' faults faults' e
 
--- The parents, and the line of the message behind them.
+-- The parents, and the line of the message after them.
 abbrev pub parents_items : List ObjectId × ℕ → List Item
 parents_items (ids, size) = map parent_item ids ++ Line (message_line size) ∷ []
 

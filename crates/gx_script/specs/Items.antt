@@ -7,7 +7,7 @@ pub data Item : Type 0 where
   Line : List ℕ → Item
   Block : List ℕ → Item
 
--- A newline ends a line, and stands behind a block.
+-- A newline ends a line, and stands after a block.
 abbrev pub ended : List ℕ → List ℕ
 ended text = text ++ 10 ∷ []
 
@@ -16,7 +16,7 @@ abbrev pub item_text : Item → List ℕ
 item_text (Line bytes) = ended bytes
 item_text (Block bytes) = ended bytes
 
--- Lines and blocks, one behind the other.
+-- Lines and blocks, one after the other.
 abbrev pub items_text : List Item → List ℕ
 items_text items = flat_map item_text items
 

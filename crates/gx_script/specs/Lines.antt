@@ -44,20 +44,20 @@ pub record Splits (byte : ℕ) (bytes front back : List ℕ) : Type 0 where
   pub is : bytes ≡ front ++ byte ∷ back
   pub first : Without byte front
 
--- The bytes behind the word have no field with a space behind it.
+-- The bytes after the word have no field with a space after it.
 abbrev pub IsNoPair : List ℕ → List ℕ → Type 0
 IsNoPair word line = (first rest : List ℕ) → Without 32 first → line ≡ word ++ (first ++ 32 ∷ rest) → ⊥
 
--- A field behind the word, and what stands behind its space.
+-- A field after the word, and what stands after its space.
 pub record IsPair (word line first rest : List ℕ) : Type 0 where
   pub is : line ≡ word ++ (first ++ 32 ∷ rest)
   pub whole : Without 32 first
 
--- The bytes behind the word have no two fields with spaces behind them.
+-- The bytes after the word have no two fields with spaces after them.
 abbrev pub IsNoTriple : List ℕ → List ℕ → Type 0
 IsNoTriple word line = (first second rest : List ℕ) → Without 32 first → Without 32 second → line ≡ word ++ (first ++ 32 ∷ (second ++ 32 ∷ rest)) → ⊥
 
--- Two fields behind the word, and what stands behind their spaces.
+-- Two fields after the word, and what stands after their spaces.
 pub record IsTriple (word line first second rest : List ℕ) : Type 0 where
   pub is : line ≡ word ++ (first ++ 32 ∷ (second ++ 32 ∷ rest))
   pub whole : Without 32 first
@@ -68,7 +68,7 @@ abbrev pub IsTail : List ℕ → Type 0
 IsTail [] = Unit {0}
 IsTail (b ∷ rest) = b ≡ 32
 
--- The field behind the space in front, and what stands behind it.
+-- The field after the space in front, and what stands after it.
 pub record CutsField (bytes field rest : List ℕ) : Type 0 where
   pub is : bytes ≡ 32 ∷ (field ++ rest)
   pub whole : Without 32 field
@@ -114,7 +114,7 @@ IsNoSet bytes = (names : NameSet) → bytes ≡ set_text names → ⊥
 abbrev pub IsNoWalkId : HashKind → List ℕ → Type 0
 IsNoWalkId hash bytes = (walked : WalkId) → IsId hash walked.id → bytes ≡ walk_id_text walked → ⊥
 
--- Fields behind spaces, each of which spells a value.
+-- Fields after spaces, each of which spells a value.
 pub record AreSpaced {X : Type 0} (text : X → List ℕ) (Fits : X → Type 0) (most : ℕ) (bytes : List ℕ) (values : List X) : Type 0 where
   pub is : bytes ≡ spaced (map text values)
   pub fits : AllByRecursion Fits values

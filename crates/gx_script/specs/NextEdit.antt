@@ -12,7 +12,7 @@ abbrev pub found_items : Option PathEdit → List Item
 found_items None = Line end_line ∷ []
 found_items (Some edit) = edit_items edit
 
--- Behind so many edits, with so many bytes left to later blocks.
+-- After this many edits, with this many bytes left to later blocks.
 abbrev pub behind_edit : ℕ → ℕ → Option PathEdit → State
 behind_edit count room None = AtOver
 behind_edit count room (Some edit) = AtEdit (count + 1) room

@@ -54,7 +54,7 @@ Fails Part Bad old left left' faults faults' ReadFault = Stays Part old left lef
 Fails Part Bad old left left' faults faults' TooLong = Overruns Part old left left'
 Fails Part Bad old left left' faults faults' NoMemory = Stays Anything old left left'
 
--- The line behind so many newlines of what is held. Lines are counted from 1, in a u64.
+-- The line after this many newlines of what is held. Lines are counted from 1, in a u64.
 abbrev pub line_number : Reading → ℕ → ℕ
 line_number reading newlines = min (reading.newlines + newlines + 1) (2 ^ 64 - 1)
 

@@ -85,12 +85,12 @@ pub record IsMalformed (hash : HashKind) (bytes : List ℕ) : Type 0 where
 abbrev pub newlines_in : List ℕ → ℕ
 newlines_in bytes = count_by (λ b. nat_eq b 10) bytes
 
--- Behind the front the input ends inside a request, or the next byte is wrong.
+-- After the front the input ends inside a request, or the next byte is wrong.
 abbrev pub StopsAt : HashKind → Type 0 → List ℕ → List ℕ → Type 0
 StopsAt hash ends front [] = ends × (front ≢ [])
 StopsAt hash ends front (b ∷ more) = IsMalformed hash (front ++ b ∷ [])
 
--- The bytes go wrong behind their longest front that begins a request, which has so many newlines.
+-- The bytes go wrong after their longest front that begins a request, which has this many newlines.
 pub record IsBad (hash : HashKind) (bytes : List ℕ) (ends : Type 0) (newlines : ℕ) : Type 0 where
   pub front : List ℕ
   pub more : List ℕ

@@ -10,7 +10,7 @@ use Rattle.gx_script.specs.Items.{NoNewline, line_limit}
 use Rattle.gx_script.specs.Items.{ended}
 use Rattle.gx_script.specs.Reading.{Reading, Moves, Fails, line_number}
 
--- Bytes were taken, at most so many.
+-- Bytes were taken, at most this many.
 pub record Took (most : ℕ) (left left' : Option (List ℕ)) : Type 0 where
   pub taken : List ℕ
   pub takes : Takes left left' taken
@@ -53,7 +53,7 @@ Filled old new left left' faults faults' (Ok true) = Moves old new left left' []
 Filled old new left left' faults faults' (Ok false) = Moves old new left left' [] × (new.held ≡ old.held) × IsEnd left'
 Filled old new left left' faults faults' (Err e) = Fails (λ bytes. bytes ≡ old.held) (λ line bytes. ⊥) old left left' faults faults' e
 
--- The bytes are a line of so many bytes, its newline, and more.
+-- The bytes are a line of this many bytes, its newline, and more.
 pub record BeginsLine (bytes : List ℕ) (count : ℕ) : Type 0 where
   pub line : List ℕ
   pub more : List ℕ
@@ -66,12 +66,12 @@ abbrev pub FoundNewline : List ℕ → Option ℕ → Type 0
 FoundNewline bytes None = NoNewline bytes
 FoundNewline bytes (Some count) = BeginsLine bytes count
 
--- A piece of a request goes wrong: behind a part of it stands the end, or a wrong byte.
+-- A piece of a request goes wrong: after a part of it stands the end, or a wrong byte.
 abbrev pub StopsPiece : (List ℕ → Type 0) → (List ℕ → ℕ → Type 0) → List ℕ → List ℕ → Type 0
 StopsPiece Ends Stop front [] = Ends front
 StopsPiece Ends Stop front (b ∷ more) = Stop front b
 
--- A piece of a request goes wrong behind a front that may stand there, which has so many newlines.
+-- A piece of a request goes wrong after a front that may stand there, which has this many newlines.
 pub record IsBadPiece (Part Ends : List ℕ → Type 0) (Stop : List ℕ → ℕ → Type 0) (bytes : List ℕ) (newlines : ℕ) : Type 0 where
   pub front : List ℕ
   pub more : List ℕ
@@ -126,7 +126,7 @@ FoundBlock count old new left left' faults faults' (Ok true) = Moves old new lef
 FoundBlock count old new left left' faults faults' (Ok false) = Moves old new left left' [] × (length new.held ≤ count) × IsEnd left'
 FoundBlock count old new left left' faults faults' (Err e) = Fails (λ bytes. length bytes ≤ count) (λ line bytes. ⊥) old left left' faults faults' e
 
--- A block goes wrong where no newline stands behind it.
+-- A block goes wrong where no newline stands after it.
 abbrev pub BlockStops : ℕ → List ℕ → ℕ → Type 0
 BlockStops count front b = (length front ≡ count) × (b ≢ 10)
 
@@ -134,7 +134,7 @@ BlockStops count front b = (length front ≡ count) × (b ≢ 10)
 abbrev pub BlockFails : ℕ → Reading → Option (List ℕ) → Option (List ℕ) → ℕ → ℕ → ScriptError → Type 0
 BlockFails count old left left' faults faults' e = Fails (λ bytes. length bytes ≤ count) (BadPieceAt (λ bytes. length bytes ≤ count) (λ front. IsEnd left') (BlockStops count) old) old left left' faults faults' e
 
--- A block of so many bytes was read.
+-- A block of this many bytes was read.
 abbrev pub ReadsBlock : ℕ → Reading → Reading → Option (List ℕ) → Option (List ℕ) → ℕ → ℕ → Result (List ℕ) ScriptError → Type 0
 ReadsBlock count old new left left' faults faults' (Ok block) = (length block ≡ count) × Moves old new left left' (ended block)
 ReadsBlock count old new left left' faults faults' (Err e) = BlockFails count old left left' faults faults' e

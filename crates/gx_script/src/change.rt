@@ -101,7 +101,7 @@ fn whole(alloc: Global, hash: HashKind, line: &[u8]) -> Result<Option<PathEdit>,
     module(alloc, hash, line)
 }
 
-/// What a line that edits says, where a block may have so many bytes.
+/// What a line that edits says, where a block may have this many bytes.
 fn edit(alloc: Global, hash: HashKind, room: u64, line: &[u8]) -> Result<Option<Change>, NoMemory>
     requires { NoNewline line.now }
     ensures { IfOk result (λ found. MatchOption found (IsNoEdit hash room line.now) (λ change. SaysChange hash 0 room change line.now)) }
@@ -129,7 +129,7 @@ pub fn is_end(line: &[u8]) -> bool
 /// The most edits of a commit.
 const EDIT_LIMIT: usize = 65536;
 
-/// What a line among the edits says, behind so many edits, where a block may have so many bytes.
+/// What a line among the edits says, after this many edits, where a block may have this many bytes.
 pub fn read_change(
     alloc: Global,
     hash: HashKind,

@@ -1,4 +1,4 @@
-//! A commit behind its first line.
+//! A commit after its first line.
 
 ghost use Rattle.gx_script.specs.Commits.{edits_items};
 ghost use Rattle.gx_script.specs.Grammar.{ReadsFrom, at_over, at_content, AtParent, AtEdit, AtContent, AtAuthor, parents_items, FitParents, FitEdits, content_of, FitsContent, commit_tail, FitsCommit};
@@ -31,7 +31,7 @@ fn parents<I: Source>(feed: &mut Feed, input: &mut I) -> Result<(Ids, usize), Sc
     }
 }
 
-/// Reads an edit behind so many others, with its block. None at the end of the request.
+/// Reads an edit after this many others, with its block. None at the end of the request.
 fn next_edit<I: Source>(
     feed: &mut Feed,
     count: usize,
@@ -53,7 +53,7 @@ fn next_edit<I: Source>(
     }
 }
 
-/// Reads the edits, whose blocks may have so many bytes, and the end of the request.
+/// Reads the edits, whose blocks may have this many bytes, and the end of the request.
 fn edits<I: Source>(feed: &mut Feed, most: u64, input: &mut I) -> Result<PathEdits, ScriptError>
     ensures edits { ReadsFrom (AtEdit 0 most) at_over edits_items (FitEdits feed.old.hash) feed.old feed.new (I.left input.old) (I.left input.new) (I.faults input.old) (I.faults input.new) result }
     ensures later { I.faults input.old ≤ I.faults input.new }
@@ -72,7 +72,7 @@ fn edits<I: Source>(feed: &mut Feed, most: u64, input: &mut I) -> Result<PathEdi
 /// The most bytes that the blocks of a request have together.
 const BLOCKS_LIMIT: u64 = 1073741824;
 
-/// Reads a message of so many bytes, the edits, and the end of the request.
+/// Reads a message of this many bytes, the edits, and the end of the request.
 fn content<I: Source>(
     feed: &mut Feed,
     size: usize,

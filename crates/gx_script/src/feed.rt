@@ -51,7 +51,7 @@ fn read_one<I: Source>(input: &mut I) -> Result<bool, ScriptError>
     Ok(input.read(&mut byte)? != 0)
 }
 
-/// Reads up to so many bytes, and adds them to those that are there.
+/// Reads up to this many bytes, and adds them to those that are there.
 fn read_onto<I: Source>(input: &mut I, bytes: &mut Vec<u8>, most: u64) -> Result<usize, ScriptError>
     requires { 0 < most }
     ensures read { ReadOnto most bytes.old.items bytes.new.items (I.left input.old) (I.left input.new) (I.faults input.old) (I.faults input.new) result }
@@ -201,7 +201,7 @@ impl Feed {
         Ok(count != 0)
     }
 
-    /// What is wrong behind so many newlines of what is held.
+    /// What is wrong after this many newlines of what is held.
     fn malformed_behind(&self, newlines: u64) -> ScriptError
         ensures { result ≡ ScriptError.Malformed (line_number self.now newlines) }
     {

@@ -29,7 +29,7 @@ pub fn what_is_bad_has_no_whole_request()
     ensures { (hash : HashKind) (bytes : List ℕ) (left : Option (List ℕ)) (newlines : ℕ) → IsBad hash bytes (IsEnd left) newlines → HasNoRequest hash bytes }
 {}
 
-/// A script has one list of requests, and one rest behind them.
+/// A script has one list of requests, and one rest after them.
 pub fn a_script_is_read_one_way()
     ensures { (hash : HashKind) (rs qs : List Request) (a b : List ℕ) → AllByRecursion (IsRequest hash) rs → AllByRecursion (IsRequest hash) qs → HasNoRequest hash a → HasNoRequest hash b → flat_map spelling rs ++ a ≡ flat_map spelling qs ++ b → (rs ≡ qs) × (a ≡ b) }
 {}

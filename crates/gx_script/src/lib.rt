@@ -1,7 +1,7 @@
 //! The script language: requests, and the reader that takes them from a source one after another.
 //!
 //! A request is spelled by lines and blocks. A line ends with a newline; a block has the length that the line before
-//! it declares, and a newline behind it. The reader takes at most one byte past its
+//! it declares, and a newline after it. The reader takes at most one byte past its
 //! limit, and only to answer that the script is too long.
 #![tactic(auto)]
 

@@ -1,4 +1,4 @@
-//! The lines of requests behind their first.
+//! The lines of requests after their first.
 
 ghost use Rattle.gx_script.specs.Grammar.{SaysOpening, SaysWho, SaysMessage, SaysPerson, SaysParent, SaysChange, IsNo, ReadsSaid, ReadsFirst};
 ghost use Rattle.gx_script.specs.Fields.{end_line};
@@ -17,7 +17,7 @@ use gx_object::Signature;
 use gx_store::Source;
 use std::alloc::Global;
 
-/// A line of the parents of a commit, or the one behind them.
+/// A line of the parents of a commit, or the one after them.
 #[derive(Drop)]
 pub enum ParentLine {
     Parent(ObjectId),
@@ -25,7 +25,7 @@ pub enum ParentLine {
     Message(usize),
 }
 
-/// The line of a person who may be left out, or the one behind it.
+/// The line of a person who may be left out, or the one after it.
 #[derive(Drop)]
 pub enum PersonLine {
     Who(Signature),
@@ -53,7 +53,7 @@ fn parent_id(hash: HashKind, count: usize, line: &[u8]) -> Option<ObjectId>
     object_id(hash, after(line, b"parent ")?)
 }
 
-/// What a line behind so many parents says.
+/// What a line after this many parents says.
 fn parent(hash: HashKind, count: usize, line: &[u8]) -> Option<ParentLine>
     ensures { MatchOption result (IsNo (SaysParent hash count) line.now) (λ next. SaysParent hash count next line.now) }
 {
@@ -114,7 +114,7 @@ pub fn who_line<I: Source>(
     Ok(who)
 }
 
-/// Reads a line behind so many parents.
+/// Reads a line after this many parents.
 pub fn parent_line<I: Source>(
     feed: &mut Feed,
     count: usize,
@@ -132,7 +132,7 @@ pub fn parent_line<I: Source>(
     Ok(next)
 }
 
-/// Reads the line of a person who may be left out, or the one behind it.
+/// Reads the line of a person who may be left out, or the one after it.
 pub fn person_line<I: Source>(
     feed: &mut Feed,
     word: &[u8],
@@ -164,7 +164,7 @@ pub fn message_line<I: Source>(feed: &mut Feed, input: &mut I) -> Result<usize, 
     Ok(count)
 }
 
-/// Reads a line behind so many edits, where a block may have so many bytes.
+/// Reads a line after this many edits, where a block may have this many bytes.
 pub fn change_line<I: Source>(
     feed: &mut Feed,
     count: usize,

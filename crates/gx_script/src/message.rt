@@ -1,4 +1,4 @@
-//! The rest of a request behind its first line, for requests that have a message or a block.
+//! The rest of a request after its first line, for requests that have a message or a block.
 
 ghost use Rattle.gx_script.specs.Grammar.{ReadsFrom, at_over, text_items, HasSize, described_items, FitsDescribed, IsPersonWord, AtText, AtPerson};
 ghost use Rattle.gx_script.specs.Items.{block_limit};
@@ -11,7 +11,7 @@ use gx_hash::Bytes;
 use gx_object::Signature;
 use gx_store::Source;
 
-/// Reads a message of so many bytes, and the end of its request.
+/// Reads a message of this many bytes, and the end of its request.
 fn text<I: Source>(feed: &mut Feed, size: usize, input: &mut I) -> Result<Bytes, ScriptError>
     requires { size ≤ block_limit }
     ensures text { ReadsFrom (AtText size) at_over text_items (HasSize size) feed.old feed.new (I.left input.old) (I.left input.new) (I.faults input.old) (I.faults input.new) result }

@@ -33,7 +33,7 @@ impl Model for ScriptReader {
     ghost view = { λ reader. reader.feed };
 }
 
-/// Reads what stands behind the first line of a request.
+/// Reads what stands after the first line of a request.
 fn rest<I: Source>(feed: &mut Feed, opening: Opening, input: &mut I) -> Result<Request, ScriptError>
     requires { IsOpening feed.old.hash opening }
     ensures rest { ReadsBehind opening feed.old feed.new (I.left input.old) (I.left input.new) (I.faults input.old) (I.faults input.new) result }

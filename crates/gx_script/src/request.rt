@@ -120,7 +120,7 @@ pub enum Request {
     },
     /// The best common ancestor of all.
     Octopus(Ids),
-    /// A name for a commit, from at most so many commits with a name.
+    /// A name for a commit, from at most this many commits with a name.
     Describe {
         names: NameSet,
         max: u64,

@@ -13,7 +13,7 @@ use crate::split::next_field;
 use gx_hash::{Bytes, HashKind, NoMemory, ObjectId};
 use std::alloc::Global;
 
-/// The ids that the bytes spell, at most so many.
+/// The ids that the bytes spell, at most this many.
 pub fn ids(
     alloc: Global,
     hash: HashKind,
@@ -40,7 +40,7 @@ pub fn ids(
     Ok(Some(ids))
 }
 
-/// The ids of a walk that the bytes spell, at most so many.
+/// The ids of a walk that the bytes spell, at most this many.
 pub fn walk_ids(
     alloc: Global,
     hash: HashKind,

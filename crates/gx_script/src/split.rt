@@ -4,14 +4,14 @@ ghost use Rattle.std.specs.Prelude.{◌≡◌, ◌++◌, [], ◌∷◌, MatchBoo
 
 use memchr::memchr;
 
-/// What stands behind the prefix.
+/// What stands after the prefix.
 pub fn after<'a>(bytes: &'a [u8], prefix: &[u8]) -> Option<&'a [u8]>
     ensures { MatchOption result (IsNotBehind prefix.now bytes.now) (λ rest. bytes.now ≡ prefix.now ++ rest.now) }
 {
     bytes.strip_prefix(prefix)
 }
 
-/// The bytes before the first such byte, and those behind it.
+/// The bytes before the first such byte, and those after it.
 pub fn split_once(bytes: &[u8], byte: u8) -> Option<(&[u8], &[u8])>
     ensures { MatchOption result (Without byte bytes.now) (λ p. Splits byte bytes.now p.0.now p.1.now) }
 {
@@ -26,7 +26,7 @@ pub fn is_without(bytes: &[u8], byte: u8) -> bool
     memchr(byte, bytes).is_none()
 }
 
-/// The field behind the word, and what stands behind its space.
+/// The field after the word, and what stands after its space.
 pub fn pair<'a>(line: &'a [u8], word: &[u8]) -> Option<(&'a [u8], &'a [u8])>
     ensures { MatchOption result (IsNoPair word.now line.now) (λ p. IsPair word.now line.now p.0.now p.1.now) }
 {
@@ -35,7 +35,7 @@ pub fn pair<'a>(line: &'a [u8], word: &[u8]) -> Option<(&'a [u8], &'a [u8])>
     Some((first, rest))
 }
 
-/// Two fields behind the word, and what stands behind their spaces.
+/// Two fields after the word, and what stands after their spaces.
 pub fn triple<'a>(line: &'a [u8], word: &[u8]) -> Option<(&'a [u8], &'a [u8], &'a [u8])>
     ensures { MatchOption result (IsNoTriple word.now line.now) (λ p. IsTriple word.now line.now p.0.now p.1.now p.2.now) }
 {
@@ -44,7 +44,7 @@ pub fn triple<'a>(line: &'a [u8], word: &[u8]) -> Option<(&'a [u8], &'a [u8], &'
     Some((first, second, rest))
 }
 
-/// The field behind the space in front, and what stands behind the field.
+/// The field after the space in front, and what stands after the field.
 pub fn next_field(bytes: &[u8]) -> Option<(&[u8], &[u8])>
     ensures { MatchOption result (IsNotBehind (32 ∷ []) bytes.now) (λ p. CutsField bytes.now p.0.now p.1.now) }
 {

@@ -31,7 +31,7 @@ telling_faultless : (state : State) → IsFaultless (telling state) (telling sta
 unfolding telling
 telling_faultless state = record { readable = λ part. refl; quiet = λ rose. omega (arith, rose) }
 
--- what the crate below says: a valid request is refused for want of memory alone
+-- what the crate below says: a valid request is refused for lack of memory alone
 abbrev pub ValidIsMade : Type 0
 ValidIsMade = (settings : Settings) (r : CommitRequest) (state : State) (old new : StoreState) (e : CommitEditsError) → view_of old ≡ whole state → IsFaultless old new → IsValidCommit settings r state → CommitEditsCauses settings r old new e → e ≡ error.NoMemory
 

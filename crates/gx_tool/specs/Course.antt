@@ -42,7 +42,7 @@ pub record Moment : Type 0 where
   pub source_faults : ℕ
   pub sink_faults : ℕ
 
--- These requests were read whole and run, with these replies; behind them these bytes were taken; these bytes were written; and this was the store after the last reply.
+-- These requests were read whole and run, with these replies; after them these bytes were taken; these bytes were written; and this was the store after the last reply.
 pub record Course (start now : Moment) (requests : List Request) (replies : List Reply) (rest : List ℕ) (out : List ℕ) (store : StoreState) : Type 0 where
   pub takes : Takes start.left now.left (flat_map spelling requests ++ rest)
   pub each : AllByRecursion (IsRequest start.store.hash) requests
@@ -80,7 +80,7 @@ abbrev pub taken_count : List Request → List ℕ → ℕ
 taken_count requests rest = length (flat_map spelling requests ++ rest)
 
 -- How a run ends, by its status: after these requests and replies, with this rest of the bytes taken, these bytes written, and the store as it was after the last reply.
--- 0 and 1: the script was read to its end, and all of its replies were written. 2: the bytes behind the requests are malformed. 3: a read failed; the bytes behind the requests begin one, or are none. 4: a write failed within a reply. 5: memory ran out. 6: never, since nothing is run. 7: the store failed at a request. 8: a byte past the limit was taken; those before it, behind the requests, begin one, or are none. (Ours; docs/SCRIPT.md.)
+-- 0 and 1: the script was read to its end, and all of its replies were written. 2: the bytes after the requests are malformed. 3: a read failed; the bytes after the requests begin one, or are none. 4: a write failed within a reply. 5: memory ran out. 6: never, since nothing is run. 7: the store failed at a request. 8: a byte past the limit was taken; those before it, after the requests, begin one, or are none. (Ours; docs/SCRIPT.md.)
 abbrev pub Ends : ℕ → Moment → Moment → List Request → List Reply → List ℕ → List ℕ → StoreState → Status → Type 0
 Ends limit start now requests replies rest out store Done = (taken_count requests rest ≤ limit) × (rest ≡ []) × IsEnd now.left × (out ≡ texts replies) × (now.store ≡ store) × (all_accepted replies ≡ true)
 Ends limit start now requests replies rest out store Refusals = (taken_count requests rest ≤ limit) × (rest ≡ []) × IsEnd now.left × (out ≡ texts replies) × (now.store ≡ store) × (all_accepted replies ≡ false)

@@ -14,7 +14,7 @@ use Rattle.gx_tool.specs.declared.refusal.Refusal.TheVariants.{Unsupported, Find
 use Rattle.gx_tool.specs.declared.reply.Reply.{Reply}
 use Rattle.gx_tool.specs.declared.reply.Reply.TheVariants.{Committed, Refused}
 
--- an id in hex digits, or a name behind an @
+-- an id in hex digits, or a name after an @
 abbrev pub target_text : Target → List ℕ
 target_text (Object id) = hex_of id
 target_text (Symbolic name) = 64 ∷ name
@@ -34,7 +34,7 @@ field_text TagName = codes "tag-name"
 field_text Encoding = codes "encoding"
 field_text HeaderName = codes "header-name"
 
--- A refusal is a word and what it keeps, each behind a space. The mode of an entry is in octal. (Ours; docs/SCRIPT.md.)
+-- A refusal is a word and what it keeps, each after a space. The mode of an entry is in octal. (Ours; docs/SCRIPT.md.)
 abbrev pub refusal_text : Refusal → List ℕ
 refusal_text Unsupported = codes "unsupported"
 refusal_text (Find id) = codes "find" ++ 32 ∷ hex_of id

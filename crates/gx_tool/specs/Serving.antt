@@ -26,7 +26,7 @@ unfoldable pub HasModuleIds : Request → Type 0
 HasModuleIds (Commit asked) = HaveModuleIds asked.edits
 HasModuleIds request = Unit {0}
 
--- What is replied to a commit that is refused. A store's fault and want of memory get no reply.
+-- What is replied to a commit that is refused. A store's fault and lack of memory get no reply.
 abbrev pub reply_to_refusal : CommitEditsError → Result Reply ExecuteError
 reply_to_refusal (error.FindExistingObject id) = Ok (Refused (Find id))
 reply_to_refusal (error.ObjectKind id actual) = Ok (Refused (Kind id actual))
@@ -61,7 +61,7 @@ Serves settings old (Commit asked) (Committed id) new = Commits settings (call_o
 Serves settings old (Commit asked) (Refused refusal) new = IsDeclined settings (call_of asked) old (Refused refusal) new
 Serves settings old request reply new = (reply ≡ Refused Unsupported) × (new ≡ old)
 
--- A request may get no reply for a fault of the store, which has a cause, or for want of memory. Then some of its objects may be stored, and after a fault of a write its reference may be moved. Only commits ask a store.
+-- A request may get no reply for a fault of the store, which has a cause, or for lack of memory. Then some of its objects may be stored, and after a fault of a write its reference may be moved. Only commits ask a store.
 unfoldable pub Stops : Settings → StoreState → Request → StoreState → ExecuteError → Type 0
 Stops settings old (Commit asked) new (no_reply.Store fault) = CommitEditsCauses settings (call_of asked) old new (error.Store fault) × Leaves settings (call_of asked) old new (error.Store fault)
 Stops settings old (Commit asked) new no_reply.NoMemory = Leaves settings (call_of asked) old new error.NoMemory

@@ -112,6 +112,13 @@ pub fn run_limited<S: Store, I: Source, O: Sink>(
 }
 
 /// Reads a script of at most 2^40 bytes where the words ask for it, and answers the number of the run's status.
+///
+/// ```
+/// let mut repo = Repository::new(Memory::new(alloc, HashKind::Sha1)?, Settings::new());
+/// let mut script = StdSource::new(rt.reader());
+/// let mut replies = StdSink::new(io::writer(&rt));
+/// let status = run(alloc, &words, now, &mut repo, &mut script, &mut replies);
+/// ```
 pub fn run<S: Store, I: Source, O: Sink>(
     alloc: Global,
     words: &[String],

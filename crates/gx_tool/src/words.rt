@@ -3,7 +3,7 @@ ghost use Rattle.gx_tool.specs.Course.{IsApply};
 
 use thiserror::Error;
 
-/// What the words behind the program's name ask for.
+/// What the words after the program's name ask for.
 #[derive(Clone, Copy, Debug, PartialEq, Eq)]
 pub enum Job {
     /// To apply a script.

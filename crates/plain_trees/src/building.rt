@@ -57,7 +57,7 @@ fn sorted_paths(alloc: Global, edits: &[PathEdit]) -> Result<Vec<Vec<u8>>, NoMem
 impl Listing {
     /// The directory with a leaf before all others: in its first entry, where that is a directory of the path's first
     /// name.
-    fn with_leaf(self, alloc: Global, path: &[Bytes], leaf: Leaf) -> Result<Listing, NoMemory> {
+    pub fn with_leaf(self, alloc: Global, path: &[Bytes], leaf: Leaf) -> Result<Listing, NoMemory> {
         let Some((name, below)) = path.split_first() else {
             return Ok(self);
         };

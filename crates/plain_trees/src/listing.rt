@@ -11,7 +11,7 @@ pub struct Listing {
     pub(crate) first: Line,
 }
 
-/// The first entry of a directory, and the entries behind it.
+/// The first entry of a directory, and the entries after it.
 #[cycle(listing)]
 #[derive(Drop)]
 pub(crate) enum Line {

@@ -84,7 +84,7 @@ impl Listing {
         }
     }
 
-    /// Whether each entry is sorted behind the key, and none has the name.
+    /// Whether each entry is sorted after the key, and none has the name.
     fn follows(&self, alloc: Global, name: &[u8], key: &[u8]) -> Result<bool, NoMemory>
         ensures { IfOk result (λ yes. IsTrue yes ↔ Follow name.now key.now self.now) }
     {
@@ -254,7 +254,7 @@ fn is_only(name: &[u8], path: &[Bytes]) -> bool
     same && below.is_empty()
 }
 
-/// The path behind its first name, where that is the given one.
+/// The path after its first name, where that is the given one.
 fn strip_name<'a>(name: &[u8], path: &'a [Bytes]) -> Option<&'a [Bytes]>
     ensures { MatchOption result ((inner rest : Directory) → leaf_at (SubEntry name.now inner rest) path.now ≡ leaf_at rest path.now)
         (λ below. (inner rest : Directory) → leaf_at (SubEntry name.now inner rest) path.now ≡ leaf_at inner below.now) }

@@ -1,11 +1,12 @@
 //! Days of the calendar, times of the day, and the moments that they name.
-ghost use Rattle.std.specs.Prelude.{◌≡◌, ◌+◌, ◌*◌, ◌^◌, ◌<◌, ◌+ℤ◌, ◌-ℤ◌, ◌*ℤ◌, pos, length, IsTrue, MatchOption};
+ghost use Rattle.std.specs.Prelude.{◌≡◌, ◌+◌, ◌*◌, ◌^◌, ◌<◌, ◌+ℤ◌, ◌-ℤ◌, ◌*ℤ◌, ℤ, pos, length, MatchOption};
 ghost use Rattle.std.specs.Bool.{OnTrue};
-ghost use Rattle.std.specs.Option.{SomeIff};
 ghost use Rattle.gx_object.specs.declared.signature.Time.{Time};
+ghost use Rattle.gx_object.specs.TimeSpelling.{SpellsOffset};
 ghost use Rattle.jiff_core.specs.Calendar.{IsDate, IsEpochDay, days_from_civil};
 ghost use Rattle.gx_actor.specs.Form.{two_digits_at};
-ghost use Rattle.gx_actor.specs.Civil.{IsClock, Exists, clock_seconds, seconds_at, is_offset, offset_of, IsTimeAt};
+ghost use Rattle.gx_actor.specs.Civil.{IsClock, Exists, clock_seconds, seconds_at, IsTimeAt};
+ghost use Rattle.gx_actor.specs.Offset.{is_offset, offset_of};
 
 use super::letters::{begins_in_form, two_digits_at};
 use gx_object::Time;
@@ -76,13 +77,13 @@ fn seconds_of_day(civil: Civil) -> Option<u32>
 
 /// The offset that the text writes, in seconds.
 fn read_offset(text: &[u8]) -> Option<i32>
-    ensures { SomeIff result (IsTrue (is_offset text.now)) (offset_of text.now) }
+    ensures { MatchOption result ((offset : ℤ) → ¬ SpellsOffset text.now offset) (SpellsOffset text.now) }
 {
-    if !is_offset(text) {
-        return None;
+    if is_offset(text) {
+        Some(offset_of(text))
+    } else {
+        None
     }
-    let seconds = offset_seconds(text) as i32;
-    Some(if text[0] == b'-' { -seconds } else { seconds })
 }
 
 fn is_offset(text: &[u8]) -> bool
@@ -90,6 +91,14 @@ fn is_offset(text: &[u8]) -> bool
     ensures long { OnTrue result (length text.now ≡ 5) }
 {
     text.len() == 5 && begins_in_form(b"?0000", text) && (text[0] == b'+' || text[0] == b'-')
+}
+
+fn offset_of(text: &[u8]) -> i32
+    requires { length text.now ≡ 5 }
+    ensures { result ≡ offset_of text.now }
+{
+    let seconds = offset_seconds(text) as i32;
+    if text[0] == b'-' { -seconds } else { seconds }
 }
 
 fn offset_seconds(text: &[u8]) -> u32

@@ -4,8 +4,9 @@ ghost use Rattle.std.specs.List.{find, position};
 ghost use Rattle.std.specs.Option.{option_to_list};
 ghost use Rattle.bstr.specs.BStr.{bstr_bytes};
 ghost use Rattle.gx_object.specs.Message.{is_space, is_no_space, unless_empty};
-ghost use Rattle.gx_actor.specs.MailmapLine.{mailmap_entries, entry_of, entry_of_parts, entry_of_two, one_email, two_emails, cut, part_of, is_end};
+ghost use Rattle.gx_actor.specs.LineReading.{mailmap_entries, entry_of, entry_of_parts, entry_of_two, one_email, two_emails, cut, part_of, is_end};
 ghost use Rattle.gx_actor.specs.LineViews.{part_text, entry_text};
+ghost use Rattle.gx_actor.specs.MailmapLine.{IsMailmap};
 
 use super::{Entry, MailmapEntries};
 use bstr::BStr;
@@ -15,7 +16,13 @@ use std::alloc::Global;
 
 /// The entries of the text's lines. Lines of no form are passed over.
 pub fn parse_ignore_errors(alloc: Global, text: &[u8]) -> Result<MailmapEntries, NoMemory>
-    ensures { IfOk result (λ entries. entries ≡ mailmap_entries text.now) }
+    ensures { IfOk result (λ entries. IsMailmap text.now entries) }
+{
+    Ok(MailmapEntries::from_vec(read_lines(alloc, text)?))
+}
+
+fn read_lines(alloc: Global, text: &[u8]) -> Result<Vec<Entry>, NoMemory>
+    ensures { IfOk result (λ entries. entries.items ≡ mailmap_entries text.now) }
 {
     let mut entries = Vec::new(alloc);
     let mut rest = text;
@@ -24,7 +31,7 @@ pub fn parse_ignore_errors(alloc: Global, text: &[u8]) -> Result<MailmapEntries,
         rest = after;
     }
     push_entry(alloc, &mut entries, rest)?;
-    Ok(MailmapEntries::from_vec(entries))
+    Ok(entries)
 }
 
 fn push_entry(alloc: Global, entries: &mut Vec<Entry>, line: &[u8]) -> Result<(), NoMemory>

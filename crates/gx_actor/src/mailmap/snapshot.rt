@@ -14,6 +14,13 @@ use std::alloc::Global;
 use std::marker::Model;
 
 /// The entries of any mailmaps, in the order in which they were merged. Contracts see the list of them.
+///
+/// ```
+/// let mut snapshot = Snapshot::new(alloc);
+/// snapshot.merge(parse_ignore_errors(alloc, b"Joe R. Developer <joe@example.com>\n")?)?;
+/// let who = snapshot.resolve(IdentityRef { name: BStr::new(b"Joe"), email: BStr::new(b"JOE@example.com"), time });
+/// // who.name is `Joe R. Developer`, and who.email is still `JOE@example.com`
+/// ```
 #[derive(Drop)]
 pub struct Snapshot {
     entries: Vec<Entry>,
@@ -46,7 +53,7 @@ impl Snapshot {
     /// Adds the entries after those that are there.
     pub fn merge(&mut self, entries: MailmapEntries) -> Result<(), NoMemory>
         ensures ok { OnOk result (self.new ≡ self.old ++ entries) }
-        ensures err { OnErr result (self.new ≡ self.old) }
+        ensures leaves { OnErr result (self.new ≡ self.old) }
     {
         let before = self.entries.len();
         let mut added = entries.into_vec();

@@ -69,7 +69,7 @@ fn with_byte(alloc: Global, path: &[u8], byte: u8) -> Result<Vec<u8>, NoMemory>
     Ok(text)
 }
 
-/// The paths below this one: those that begin with it and a slash, and so lie before it and the byte behind the slash.
+/// The paths below this one: those that begin with it and a slash, and so lie before it and the byte after the slash.
 fn texts_below(
     alloc: Global,
     map: &BTreeMap<Vec<u8>, Leaf>,

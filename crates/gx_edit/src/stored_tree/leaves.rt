@@ -17,7 +17,7 @@ pub(super) fn has_leaf(leaves: &BTreeMap<Vec<u8>, Leaf>, path: &[u8]) -> bool
     leaves.get(path).is_some()
 }
 
-/// Puts the entry of a directory, whose path is given with a slash behind it.
+/// Puts the entry of a directory, whose path is given with a slash after it.
 pub(super) fn insert_leaf(
     alloc: Global,
     leaves: &mut BTreeMap<Vec<u8>, Leaf>,

@@ -13,7 +13,7 @@ pub(super) struct Row {
     pub(super) leaf: Leaf,
 }
 
-/// What is left of a path behind the directories that are entered.
+/// What is left of a path after the directories that are entered.
 pub(super) fn rest_of(row: &Row, at: usize) -> &[u8]
     requires { at ≤ length row.now.path.items }
     ensures { result.now ≡ drop at row.now.path.items }
@@ -47,7 +47,7 @@ fn group_len(rows: &[Row], at: usize, name: &[u8]) -> usize
     count
 }
 
-/// Parts the rows that go into the directory of this name from those behind them.
+/// Parts the rows that go into the directory of this name from those after them.
 pub(super) fn first_group<'a>(rows: &'a [Row], at: usize, name: &[u8]) -> (&'a [Row], &'a [Row])
     requires reach { Reach at rows.now }
     requires some { 0 < run name.now (rows_at at rows.now) }

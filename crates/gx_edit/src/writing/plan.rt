@@ -27,7 +27,7 @@ pub(super) struct Plan {
 struct OpenDirectory<'a> {
     /// The name of the directory that is being planned.
     name: &'a [u8],
-    /// What comes behind that directory.
+    /// What comes after that directory.
     after: &'a [Row],
     /// Where the names of this directory stand in its paths.
     at: usize,

@@ -1,0 +1,340 @@
+//! Steps of `store` rows on references and their logs.
+ghost use Rattle.std.specs.Prelude.{◌≡◌, IfOk};
+ghost use Rattle.gx_store.specs.Kinds.{IsTargetChangeOfKind, IsActOfKind};
+
+use crate::faults::{reference_error, store_error};
+use crate::logs::{due, line_bytes, person};
+use crate::store::only;
+use crate::values::{has_word, id_in, mode_in, name_in};
+use gx_hash::{Bytes, HashKind, ObjectId};
+use gx_refs::{WriteReflog, chain, move_end, resolve};
+use gx_rules::FullName;
+use gx_store::{
+    Lines, LogAct, LogLine, Memory, Names, Objects, RefChange, References, StoreError, Target,
+    TargetChange,
+};
+use probe_rows::ProbeError;
+use probe_rows::answers::{id_of, push_field, push_id, push_word, quoted, shown, truth, word};
+use std::alloc::Global;
+
+/// The answer of a call that reads references or their logs.
+pub fn read_by(
+    alloc: Global,
+    store: &Memory,
+    call: &[u8],
+    fields: &[Vec<u8>],
+) -> Result<Option<Vec<u8>>, ProbeError> {
+    match call {
+        b"list" => Ok(Some(list(alloc, store, only(fields)?)?)),
+        b"find"
+        | b"find_conflict"
+        | b"log"
+        | b"last_line"
+        | b"log_exists"
+        | b"chain"
+        | b"resolve" => {
+            let name = name_in(alloc, only(fields)?)?;
+            Ok(Some(read_at(alloc, store, call, &name)?))
+        }
+        b"is_due" => Ok(Some(due_here(alloc, store, fields)?)),
+        _ => Ok(None),
+    }
+}
+
+/// The answer of a call that takes a name.
+fn read_at(
+    alloc: Global,
+    store: &Memory,
+    call: &[u8],
+    name: &FullName,
+) -> Result<Vec<u8>, ProbeError> {
+    match call {
+        b"find" => find(alloc, store, name),
+        b"find_conflict" => conflict(alloc, store, name),
+        b"log" => log(alloc, store, name),
+        b"last_line" => last_line(alloc, store, name),
+        b"log_exists" => log_exists(alloc, store, name),
+        b"chain" => chain_from(alloc, store, name),
+        _ => resolved(alloc, store, name),
+    }
+}
+
+/// The answer of a call that changes references: `ok` where the changes are made.
+pub fn change_by(
+    alloc: Global,
+    store: &mut Memory,
+    call: &[u8],
+    fields: &[Vec<u8>],
+) -> Result<Option<Vec<u8>>, ProbeError> {
+    match call {
+        b"lead" => Ok(Some(lead(alloc, store, fields)?)),
+        b"apply" => Ok(Some(apply(alloc, store, fields)?)),
+        b"move" => Ok(Some(move_by(alloc, store, fields)?)),
+        _ => Ok(None),
+    }
+}
+
+fn list(alloc: Global, store: &Memory, prefix: &[u8]) -> Result<Vec<u8>, ProbeError> {
+    match store.list(alloc, prefix) {
+        Ok(names) => told_names(alloc, &names),
+        Err(error) => store_error(alloc, &error),
+    }
+}
+
+fn told_names(alloc: Global, names: &Names) -> Result<Vec<u8>, ProbeError> {
+    let mut answer = Vec::new(alloc);
+    for name in names.as_slice() {
+        push_field(&mut answer, name.as_slice())?;
+    }
+    if answer.is_empty() {
+        push_word(&mut answer, "none")?;
+    }
+    Ok(answer)
+}
+
+fn find(alloc: Global, store: &Memory, name: &FullName) -> Result<Vec<u8>, ProbeError> {
+    match store.find(alloc, name) {
+        Ok(found) => {
+            let mut answer = Vec::new(alloc);
+            push_target(&mut answer, &found)?;
+            Ok(answer)
+        }
+        Err(error) => store_error(alloc, &error),
+    }
+}
+
+fn push_target(answer: &mut Vec<u8>, target: &Option<Target>) -> Result<(), ProbeError> {
+    match target {
+        None => push_word(answer, "none"),
+        Some(Target::Object(id)) => {
+            push_word(answer, "object")?;
+            push_id(answer, id)
+        }
+        Some(Target::Symbolic(name)) => {
+            push_word(answer, "symbolic")?;
+            push_field(answer, name.as_slice())
+        }
+    }
+}
+
+fn conflict(alloc: Global, store: &Memory, name: &FullName) -> Result<Vec<u8>, ProbeError> {
+    match store.find_conflict(alloc, name) {
+        Ok(Some(other)) => quoted(alloc, other.as_slice()),
+        Ok(None) => word(alloc, "none"),
+        Err(error) => store_error(alloc, &error),
+    }
+}
+
+fn log(alloc: Global, store: &Memory, name: &FullName) -> Result<Vec<u8>, ProbeError> {
+    match store.log(alloc, name) {
+        Ok(Some(lines)) => told_lines(alloc, &lines),
+        Ok(None) => word(alloc, "none"),
+        Err(error) => store_error(alloc, &error),
+    }
+}
+
+fn told_lines(alloc: Global, lines: &Lines) -> Result<Vec<u8>, ProbeError> {
+    let mut answer = Vec::new(alloc);
+    for line in lines.as_slice() {
+        push_field(&mut answer, &line_bytes(alloc, line)?)?;
+    }
+    Ok(answer)
+}
+
+fn last_line(alloc: Global, store: &Memory, name: &FullName) -> Result<Vec<u8>, ProbeError> {
+    match store.log(alloc, name) {
+        Ok(Some(lines)) => count_and_last(alloc, lines.as_slice()),
+        Ok(None) => word(alloc, "none"),
+        Err(error) => store_error(alloc, &error),
+    }
+}
+
+/// The number of lines, and the last of them.
+fn count_and_last(alloc: Global, lines: &[LogLine]) -> Result<Vec<u8>, ProbeError> {
+    let mut answer = shown(alloc, &lines.len())?;
+    if let Some(line) = lines.last() {
+        push_field(&mut answer, &line_bytes(alloc, line)?)?;
+    }
+    Ok(answer)
+}
+
+fn log_exists(alloc: Global, store: &Memory, name: &FullName) -> Result<Vec<u8>, ProbeError> {
+    match store.log_exists(alloc, name) {
+        Ok(found) => truth(alloc, found),
+        Err(error) => store_error(alloc, &error),
+    }
+}
+
+fn chain_from(alloc: Global, store: &Memory, name: &FullName) -> Result<Vec<u8>, ProbeError> {
+    match chain(alloc, store, name) {
+        Ok(names) => told_names(alloc, &names),
+        Err(error) => reference_error(alloc, &error),
+    }
+}
+
+fn resolved(alloc: Global, store: &Memory, name: &FullName) -> Result<Vec<u8>, ProbeError> {
+    match resolve(alloc, store, name) {
+        Ok(chain) => {
+            let mut answer = told_names(alloc, &chain.names)?;
+            push_word(&mut answer, "->")?;
+            push_target(&mut answer, &chain.target)?;
+            Ok(answer)
+        }
+        Err(error) => reference_error(alloc, &error),
+    }
+}
+
+fn due_here(alloc: Global, store: &Memory, fields: &[Vec<u8>]) -> Result<Vec<u8>, ProbeError> {
+    let [mode, name, words @ ..] = fields else {
+        return Err(ProbeError::BadLine);
+    };
+    let name = name_in(alloc, name)?;
+    due(
+        alloc,
+        store,
+        mode_in(mode)?,
+        &name,
+        has_word(words, b"force"),
+    )
+}
+
+/// A change of the name. Its target is kept or removed, or becomes an id of the kind, or else another name. Its log is
+/// kept or removed, or else gets a line with the message.
+fn change_in(
+    alloc: Global,
+    hash: HashKind,
+    name: &[u8],
+    target: &[u8],
+    log: &[u8],
+) -> Result<RefChange, ProbeError>
+    ensures name { IfOk result (λ change. change.name ≡ name.now) }
+    ensures target { IfOk result (λ change. IsTargetChangeOfKind hash change.target) }
+    ensures log { IfOk result (λ change. IsActOfKind hash change.log) }
+{
+    Ok(RefChange {
+        name: name_in(alloc, name)?,
+        target: target_in(alloc, hash, target)?,
+        log: log_in(alloc, hash, log)?,
+    })
+}
+
+fn target_in(alloc: Global, hash: HashKind, field: &[u8]) -> Result<TargetChange, ProbeError>
+    ensures { IfOk result (IsTargetChangeOfKind hash) }
+{
+    match field {
+        b"keep" => Ok(TargetChange::Keep),
+        b"remove" => Ok(TargetChange::Remove),
+        _ => match id_of(field) {
+            None => Ok(TargetChange::Set(Target::Symbolic(name_in(alloc, field)?))),
+            Some(id) if id.kind() == hash => Ok(TargetChange::Set(Target::Object(id))),
+            Some(_) => Err(ProbeError::BadLine),
+        },
+    }
+}
+
+fn log_in(alloc: Global, hash: HashKind, field: &[u8]) -> Result<LogAct, ProbeError>
+    ensures { IfOk result (IsActOfKind hash) }
+{
+    match field {
+        b"keep" => Ok(LogAct::Keep),
+        b"remove" => Ok(LogAct::Remove),
+        message => Ok(LogAct::Append(LogLine {
+            previous: hash.null(),
+            new: hash.empty_blob(),
+            signature: person(alloc)?,
+            message: Bytes::from_slice(alloc, message)?,
+        })),
+    }
+}
+
+/// Makes the change of a name, or the changes of two names in one call.
+fn apply(alloc: Global, store: &mut Memory, fields: &[Vec<u8>]) -> Result<Vec<u8>, ProbeError> {
+    match fields {
+        [name, target, log] => apply_one(alloc, store, name, target, log),
+        [name, target, log, other, other_target, other_log] => apply_two(
+            alloc,
+            store,
+            [name, target, log],
+            [other, other_target, other_log],
+        ),
+        _ => Err(ProbeError::BadLine),
+    }
+}
+
+pub fn apply_one(
+    alloc: Global,
+    store: &mut Memory,
+    name: &[u8],
+    target: &[u8],
+    log: &[u8],
+) -> Result<Vec<u8>, ProbeError> {
+    let changes = [change_in(alloc, store.hash_kind(), name, target, log)?];
+    outcome(alloc, store.apply(alloc, &changes))
+}
+
+fn apply_two(
+    alloc: Global,
+    store: &mut Memory,
+    first: [&[u8]; 3],
+    second: [&[u8]; 3],
+) -> Result<Vec<u8>, ProbeError> {
+    if first[0] == second[0] {
+        return Err(ProbeError::BadLine);
+    }
+    let hash = store.hash_kind();
+    let changes = [
+        change_in(alloc, hash, first[0], first[1], first[2])?,
+        change_in(alloc, hash, second[0], second[1], second[2])?,
+    ];
+    outcome(alloc, store.apply(alloc, &changes))
+}
+
+fn outcome(alloc: Global, made: Result<(), StoreError>) -> Result<Vec<u8>, ProbeError> {
+    match made {
+        Ok(()) => word(alloc, "ok"),
+        Err(error) => store_error(alloc, &error),
+    }
+}
+
+/// Lets each of the names lead to the next, up to a change that fails.
+fn lead(alloc: Global, store: &mut Memory, names: &[Vec<u8>]) -> Result<Vec<u8>, ProbeError> {
+    for pair in names.windows(2) {
+        if let [from, to] = pair {
+            let answer = apply_one(alloc, store, from, to, b"keep")?;
+            if answer.as_slice() != b"ok".as_slice() {
+                return Ok(answer);
+            }
+        }
+    }
+    word(alloc, "ok")
+}
+
+fn move_by(alloc: Global, store: &mut Memory, fields: &[Vec<u8>]) -> Result<Vec<u8>, ProbeError> {
+    let [mode, name, id, message] = fields else {
+        return Err(ProbeError::BadLine);
+    };
+    let name = name_in(alloc, name)?;
+    move_to(alloc, store, mode_in(mode)?, &name, id_in(id)?, message)
+}
+
+fn move_to(
+    alloc: Global,
+    store: &mut Memory,
+    mode: WriteReflog,
+    name: &FullName,
+    id: ObjectId,
+    message: &[u8],
+) -> Result<Vec<u8>, ProbeError> {
+    let who = person(alloc)?;
+    if id.kind() != store.hash_kind() {
+        return Err(ProbeError::BadLine);
+    }
+    let chain = match resolve(alloc, store, name) {
+        Ok(chain) => chain,
+        Err(error) => return reference_error(alloc, &error),
+    };
+    match move_end(alloc, store, mode, &chain, id, &who, message) {
+        Ok(changes) => outcome(alloc, store.apply(alloc, &changes)),
+        Err(error) => store_error(alloc, &error),
+    }
+}

@@ -1,0 +1,189 @@
+//! Rows of calls on a new store in memory, one after another: `store KIND STEP ; STEP ..`, where a step is a call and
+//! its fields. Each step is answered, with ` ; ` between two answers.
+
+use crate::faults::store_error;
+use crate::references;
+use crate::values::{hash_in, id_in, kind_in, name_in, number_in};
+use gx_hash::ObjectId;
+use gx_object::Kind;
+use gx_store::{Memory, Objects, write_object};
+use probe_rows::ProbeError;
+use probe_rows::answers::{hex, push_field, push_shown, shown, truth, word};
+use std::alloc::Global;
+
+pub fn answer(
+    alloc: Global,
+    call: &[u8],
+    fields: &[Vec<u8>],
+) -> Result<Option<Vec<u8>>, ProbeError> {
+    match call {
+        b"store" => Ok(Some(answer_steps(alloc, fields)?)),
+        _ => Ok(None),
+    }
+}
+
+fn answer_steps(alloc: Global, fields: &[Vec<u8>]) -> Result<Vec<u8>, ProbeError> {
+    let Some((kind, words)) = fields.split_first() else {
+        return Err(ProbeError::BadLine);
+    };
+    let mut store = Memory::new(alloc, hash_in(kind)?)?;
+    let mut answers = Vec::new(alloc);
+    for step in words.split(|field| field.as_slice() == b";".as_slice()) {
+        let answer = answer_step(alloc, &mut store, step)?;
+        push_answer(&mut answers, &answer)?;
+    }
+    Ok(answers)
+}
+
+/// Appends the answer of a step.
+pub fn push_answer(answers: &mut Vec<u8>, answer: &[u8]) -> Result<(), ProbeError> {
+    if !answers.is_empty() {
+        answers.extend_from_slice(b" ; ")?;
+    }
+    Ok(answers.extend_from_slice(answer)?)
+}
+
+/// The answer of a call on the store.
+pub fn answer_step(
+    alloc: Global,
+    store: &mut Memory,
+    step: &[Vec<u8>],
+) -> Result<Vec<u8>, ProbeError> {
+    let Some((call, fields)) = step.split_first() else {
+        return Err(ProbeError::BadLine);
+    };
+    if let Some(found) = read_by(alloc, store, call, fields)? {
+        return Ok(found);
+    }
+    if let Some(found) = references::read_by(alloc, store, call, fields)? {
+        return Ok(found);
+    }
+    if let Some(done) = references::change_by(alloc, store, call, fields)? {
+        return Ok(done);
+    }
+    change_by(alloc, store, call, fields)
+}
+
+/// The answer of a call that reads objects, or counts faults.
+fn read_by(
+    alloc: Global,
+    store: &Memory,
+    call: &[u8],
+    fields: &[Vec<u8>],
+) -> Result<Option<Vec<u8>>, ProbeError> {
+    match call {
+        b"read" => Ok(Some(read(alloc, store, &only_id(fields)?)?)),
+        b"header" => Ok(Some(header(alloc, store, &only_id(fields)?)?)),
+        b"exists" => Ok(Some(exists(alloc, store, &only_id(fields)?)?)),
+        b"faults" => Ok(Some(shown(alloc, &store.fault_count())?)),
+        _ => Ok(None),
+    }
+}
+
+/// The answer of a call that changes objects, or lets later calls fail.
+fn change_by(
+    alloc: Global,
+    store: &mut Memory,
+    call: &[u8],
+    fields: &[Vec<u8>],
+) -> Result<Vec<u8>, ProbeError> {
+    match call {
+        b"write" => write(alloc, store, fields),
+        _ => {
+            prepare(alloc, store, call, fields)?;
+            word(alloc, "ok")
+        }
+    }
+}
+
+/// Puts an object whatever its id is the digest of, or breaks a part of the store.
+fn prepare(
+    alloc: Global,
+    store: &mut Memory,
+    call: &[u8],
+    fields: &[Vec<u8>],
+) -> Result<(), ProbeError> {
+    match call {
+        b"put" => put(store, fields),
+        b"break_object" => Ok(store.break_object(only_id(fields)?)?),
+        b"break_name" => Ok(store.break_name(name_in(alloc, only(fields)?)?)?),
+        b"break_listing" => {
+            store.break_listing();
+            Ok(())
+        }
+        b"fail_write" => Ok(store.fail_write(number_in(only(fields)?)?)?),
+        _ => Err(ProbeError::BadLine),
+    }
+}
+
+/// The field of a call that has one.
+pub fn only(fields: &[Vec<u8>]) -> Result<&[u8], ProbeError> {
+    match fields {
+        [field] => Ok(field),
+        _ => Err(ProbeError::BadLine),
+    }
+}
+
+fn only_id(fields: &[Vec<u8>]) -> Result<ObjectId, ProbeError> {
+    id_in(only(fields)?)
+}
+
+fn write(alloc: Global, store: &mut Memory, fields: &[Vec<u8>]) -> Result<Vec<u8>, ProbeError> {
+    let [kind, bytes] = fields else {
+        return Err(ProbeError::BadLine);
+    };
+    written(alloc, store, kind_in(kind)?, bytes)
+}
+
+/// Writes an object, and answers its id.
+pub fn written(
+    alloc: Global,
+    store: &mut Memory,
+    kind: Kind,
+    bytes: &[u8],
+) -> Result<Vec<u8>, ProbeError> {
+    match write_object(alloc, store, kind, bytes) {
+        Ok(id) => hex(alloc, &id),
+        Err(error) => store_error(alloc, &error),
+    }
+}
+
+fn put(store: &mut Memory, fields: &[Vec<u8>]) -> Result<(), ProbeError> {
+    let [id, kind, bytes] = fields else {
+        return Err(ProbeError::BadLine);
+    };
+    Ok(store.put_raw(id_in(id)?, kind_in(kind)?, bytes)?)
+}
+
+fn read(alloc: Global, store: &Memory, id: &ObjectId) -> Result<Vec<u8>, ProbeError> {
+    match store.read(alloc, id) {
+        Ok(Some((kind, bytes))) => kind_and_field(alloc, kind, bytes.as_slice()),
+        Ok(None) => word(alloc, "none"),
+        Err(error) => store_error(alloc, &error),
+    }
+}
+
+fn kind_and_field(alloc: Global, kind: Kind, bytes: &[u8]) -> Result<Vec<u8>, ProbeError> {
+    let mut answer = Vec::from_slice(alloc, kind.as_bytes())?;
+    push_field(&mut answer, bytes)?;
+    Ok(answer)
+}
+
+fn header(alloc: Global, store: &Memory, id: &ObjectId) -> Result<Vec<u8>, ProbeError> {
+    match store.header(alloc, id) {
+        Ok(Some(header)) => {
+            let mut answer = Vec::from_slice(alloc, header.kind.as_bytes())?;
+            push_shown(alloc, &mut answer, &header.size)?;
+            Ok(answer)
+        }
+        Ok(None) => word(alloc, "none"),
+        Err(error) => store_error(alloc, &error),
+    }
+}
+
+fn exists(alloc: Global, store: &Memory, id: &ObjectId) -> Result<Vec<u8>, ProbeError> {
+    match store.exists(alloc, id) {
+        Ok(found) => truth(alloc, found),
+        Err(error) => store_error(alloc, &error),
+    }
+}
