@@ -62,6 +62,17 @@ def best(measures):
     return Measure(fastest.wall, fastest.user, fastest.system, min(m.peak for m in measures))
 
 
+def instructions(command, source):
+    """How many instructions a command runs from a file on, as callgrind counts them, or None without valgrind."""
+    valgrind = shutil.which("valgrind")
+    if valgrind is None:
+        return None
+    words = [valgrind, "--tool=callgrind", "--callgrind-out-file=/dev/null", *command]
+    with open(source, "rb") as stdin:
+        done = subprocess.run(words, check=True, stdin=stdin, stdout=subprocess.DEVNULL, stderr=subprocess.PIPE)
+    return int(done.stderr.split(b"Collected :")[1].split()[0])
+
+
 # ---- the programs
 
 

@@ -88,6 +88,7 @@ ends() {
 }
 
 informs --version
+informs -h
 informs --help
 cp -- "$scratch/printed" "$usage"
 explains --memory --memory-sha256 apply --help --version
@@ -106,6 +107,7 @@ rejects "another store" 9 "$no_repository" nowhere apply
 rejects "no store" 9 "$no_repository" apply
 rejects "an empty word for the store" 9 "$no_repository" "" apply
 rejects "a word after --help" 9 "$no_repository" --help apply
+rejects "a word after -h" 9 "$no_repository" -h apply
 rejects "a word after --version" 9 "$no_repository" --version apply
 
 unheard() {

@@ -85,6 +85,11 @@ store_probe() {
     build store_probe && "$top/crates/store_probe/out/store_probe"
 }
 
+# Runs the program that asks the library of walks.
+walk_probe() {
+    build walk_probe && "$top/crates/walk_probe/out/walk_probe"
+}
+
 # Runs the program that asks the library of scripts.
 script_probe() {
     build script_probe && "$top/crates/script_probe/out/script_probe" "$@"

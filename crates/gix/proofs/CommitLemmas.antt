@@ -21,22 +21,22 @@ applied_then changes w t u before after = record {
   later = omega (arith, before.later, after.later);
 }
 
-module _ (settings : Settings) (r : CommitRequest) (s t u : StoreState) (plan : Plan) (p : IsPlan settings r s plan) (written : Becomes (all_stored (written_objects s.hash r p.directory) s) t) (changes : List RefChange) (is : changes ≡ plan.changes.items) where
+module _ (settings : Settings) (r : CommitRequest) (s t u : StoreState) (plan : Plan) (p : IsPlan settings r s plan) (written : Becomes (all_stored (written_objects r plan.objects.trees) s) t) (changes : List RefChange) (is : changes ≡ plan.changes.items) where
   -- what an `apply` that failed leaves
   pub leaves_torn : (e : StoreError) → (IsErrOf {T = Unit {0}} (Err e) NoMemory → Becomes t u) → OfFault e (λ fault. HasCause t u fault × AfterFault changes t u) → Leaves settings r s u (handed_on e)
   leaves_torn NoMemory b f = inr (record {
-    directory = p.directory;
+    output = plan.objects.trees;
     way = p.way;
     admitted = p.admitted;
     grows = record {
-      first = written_objects s.hash r p.directory;
+      first = written_objects r plan.objects.trees;
       rest = [];
-      split = sym (append-nil (written_objects s.hash r p.directory));
-      becomes = becomes_then (all_stored (written_objects s.hash r p.directory) s) t u written (b refl);
+      split = sym (append-nil (written_objects r plan.objects.trees));
+      becomes = becomes_then (all_stored (written_objects r plan.objects.trees) s) t u written (b refl);
     };
   })
   leaves_torn (Fault fault) b f = subst (LeavesFault settings r s u) (sym f.0.0) (inr (record {
-    directory = p.directory;
+    output = plan.objects.trees;
     way = p.way;
     admitted = p.admitted;
     changes = changes;
@@ -48,11 +48,11 @@ module _ (settings : Settings) (r : CommitRequest) (s t u : StoreState) (plan : 
 
   pub commits : Becomes (applied changes t) u → Commits settings r s plan.objects.id u
   commits b = record {
-    directory = p.directory;
+    output = plan.objects.trees;
     way = p.way;
     admitted = p.admitted;
     is_id = p.objects.is_id;
     changes = changes;
     moves = subst (Moves s.hash r s.references p.way plan.objects.id) (sym is) p.moves;
-    becomes = applied_then changes (all_stored (written_objects s.hash r p.directory) s) t u written b;
+    becomes = applied_then changes (all_stored (written_objects r plan.objects.trees) s) t u written b;
   }

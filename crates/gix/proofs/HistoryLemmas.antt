@@ -1,5 +1,5 @@
 -- Along a history each commit that a call left stored keeps its map, and that is the map of its first-parent line.
-use Rattle.std.proofs.Common.{◌≡◌, ◌∙◌, sym, ap, refl, subst, arith, List, [], ◌∷◌, ◌++◌, append-nil, append_assoc, ℕ, suc, zero, Bool, true, false, cond, Option, Some, None, IfSome, Contains, inl, inr, ◌⊎◌, ⊎_elim, Result, Ok, Err}
+use Rattle.std.proofs.Common.{◌≡◌, ◌∙◌, sym, ap, refl, subst, arith, List, [], ◌∷◌, ◌++◌, map, append-nil, append_assoc, ℕ, suc, zero, Bool, true, false, cond, Option, Some, None, IfSome, Contains, inl, inr, ◌⊎◌, ⊎_elim, Result, Ok, Err}
 use Rattle.std.specs.List.{AllByRecursion}
 use Rattle.std.specs.Option.{option_or}
 use Rattle.std.specs.FinMap.{get}
@@ -7,29 +7,31 @@ use Rattle.gx_hash.specs.declared.kind.HashKind.{HashKind}
 use Rattle.gx_hash.specs.declared.oid.ObjectId.{ObjectId}
 use Rattle.gx_hash.specs.HashKind.{kind_of}
 use Rattle.gx_hash.specs.ObjectId.{empty_tree_id}
+use Rattle.gx_hash.specs.ObjectIds.{id_eq}
 use Rattle.gx_hash.specs.Laws.{same_id}
 use Rattle.gx_object.specs.declared.kind.Kind.{Kind}
 use Rattle.gx_object.specs.declared.kind.Kind.TheVariants as kind
-use Rattle.gx_hash.specs.ObjectIds.{id_eq}
+use Rattle.gx_object.specs.declared.tree.Entry.{Entry}
 use Rattle.gx_store.specs.Content.{Content, lookup, id_of, object_at, HoldsAll, Adds, AreOfOwnIds, AreApart}
-use Rattle.gx_store.proofs.ContentLemmas.{found_stays}
+use Rattle.gx_store.specs.Laws.{FoundStays}
 use Rattle.gx_edit.specs.PathMap.{PathMap, no_paths, edited, blobs_in, blobs_of}
-use Rattle.gx_edit.specs.CanonicalTree.{Directory, tree_of, trees_below, trees_of}
-use Rattle.gx_edit.specs.CanonicalTree.Directory.{End, File, Sub}
+use Rattle.gx_edit.specs.CanonicalTree.{trees_of}
+use Rattle.gx_edit.specs.Output.{Output}
+use Rattle.gx_edit.specs.Written.{tree_with}
 use Rattle.gx_edit.specs.declared.path_edit.PathEdit.{PathEdit}
 use Rattle.gx_edit.specs.declared.path_edit.PathEdit.TheVariants as edit
-use Rattle.gx_edit.proofs.EntryOrder.{All-append}
 use Rattle.gix.specs.declared.settings.Settings.{Settings}
 use Rattle.gix.specs.declared.error.CommitEditsError.{CommitEditsError}
 use Rattle.gix.specs.CommitRequest.{CommitRequest}
-use Rattle.gix.specs.View.{State, whole}
-use Rattle.gix.specs.Base.{IsMapOf, IsBase}
+use Rattle.gix.specs.View.{View, State, whole}
+use Rattle.gix.specs.Base.{IsMapOf, IsBaseTree, IsBase}
 use Rattle.gix.specs.Trees.{Makes, brought}
+use Rattle.gix.specs.LawsBelow.{LawsBelow, MapIsUnique}
 use Rattle.gix.specs.CommitEdits.{commit_text, commit_id, written_objects}
 use Rattle.gix.specs.Machine.{Accepts}
 use Rattle.gix.specs.History.{Call, AddsCommit, AddsFirst, Left, CallStep, Premises, History, IsEmpty, ByParent, IsLine, line_map}
+use Rattle.gix.proofs.Lists.{none_in, at_head, at_tail, all_before, all_both}
 use Rattle.gix.proofs.OnceLemmas.{one_kind, one_map}
-use Rattle.gix.proofs.ValidLemmas.{All-before}
 use Rattle.gix.proofs.NewMaps.{new_map}
 
 -- ---- what stays found
@@ -40,33 +42,37 @@ IsKept old new = (id : ObjectId) (object : Kind × List ℕ) → lookup old id �
 of_some : {X : Type 0} (P : X → Type 0) (o : Option X) (x : X) → IfSome o P → o ≡ Some x → P x
 of_some P o x h is = subst (λ o. IfSome o P) is h
 
-kept : (hash : HashKind) (objects : List (Kind × List ℕ)) (old new : Content) → AreApart hash old objects → Adds hash objects old new → IsKept old new
-kept hash objects old new apart adds id object is = of_some (λ object. lookup new id ≡ Some object) (lookup old id) object (found_stays hash objects old new apart adds id) is
+kept : (found : FoundStays) (hash : HashKind) (objects : List (Kind × List ℕ)) (old new : Content) → AreApart hash old objects → Adds hash objects old new → IsKept old new
+kept found hash objects old new apart adds id object is = of_some (λ object. lookup new id ≡ Some object) (lookup old id) object (found hash objects old new apart adds id) is
 
 all_kept : (hash : HashKind) (objects : List (Kind × List ℕ)) (old new : Content) → IsKept old new → HoldsAll hash objects old → HoldsAll hash objects new
 all_kept hash [] old new keeps h = tt
 all_kept hash (object ∷ objects) old new keeps h = (keeps (id_of hash object) object h.0, all_kept hash objects old new keeps h.1)
 
 map_kept : (hash : HashKind) (old new : Content) (id : ObjectId) (m : PathMap) → IsKept old new → IsMapOf hash old id m → IsMapOf hash new id m
-map_kept hash old new id m keeps is = record {
-  tree = is.tree;
-  has_tree = record { bytes = is.has_tree.bytes; text = is.has_tree.text; stored = keeps id (kind.Commit, is.has_tree.bytes) is.has_tree.stored; spelled = is.has_tree.spelled; named = is.has_tree.named };
-  represents = record { directory = is.represents.directory; stands = is.represents.stands; is_root = is.represents.is_root; stored = all_kept hash (trees_of hash is.represents.directory) old new keeps is.represents.stored };
-  ids = is.ids;
-  own = is.own;
-}
+map_kept hash old new id m keeps is =
+    let rep = is.has_map.represents in
+    record {
+      tree = is.tree;
+      has_tree = record { bytes = is.has_tree.bytes; text = is.has_tree.text; stored = keeps id (kind.Commit, is.has_tree.bytes) is.has_tree.stored; spelled = is.has_tree.spelled; named = is.has_tree.named };
+      has_map = record {
+        represents = record { directory = rep.directory; stands = rep.stands; is_root = rep.is_root; stored = all_kept hash (trees_of hash rep.directory) old new keeps rep.stored };
+        ids = is.has_map.ids;
+        own = is.has_map.own;
+      };
+    }
 
 -- ---- the first of objects that are apart
 
 own_before : (hash : HashKind) (xs ys : List (Kind × List ℕ)) → AreOfOwnIds hash (xs ++ ys) → AreOfOwnIds hash xs
 own_before hash [] ys h = tt
-own_before hash (x ∷ xs) ys h = (All-before (λ other. id_of hash other ≡ id_of hash x → other ≡ x) xs ys h.0, own_before hash xs ys h.1)
+own_before hash (x ∷ xs) ys h = (all_before (λ other. id_of hash other ≡ id_of hash x → other ≡ x) xs ys h.0, own_before hash xs ys h.1)
 
 apart_before : (hash : HashKind) (content : Content) (xs ys : List (Kind × List ℕ)) → AreApart hash content (xs ++ ys) → AreApart hash content xs
 apart_before hash content xs ys h = record {
-  named = All-before _ xs ys h.named;
+  named = all_before _ xs ys h.named;
   own = own_before hash xs ys h.own;
-  agreed = All-before _ xs ys h.agreed;
+  agreed = all_before _ xs ys h.agreed;
 }
 
 -- ---- commits that are new
@@ -96,10 +102,10 @@ blob_is_none e = cc
 tree_is_none : ◌≡◌ {A = Kind} kind.Tree kind.Commit → ⊥
 tree_is_none e = cc
 
-module _ (hash : HashKind) (r : CommitRequest) (directory : Directory) where
+module _ (hash : HashKind) (r : CommitRequest) (output : Output) where
   -- a commit among what a request writes is its own
   abbrev IsOwnCommit : Kind × List ℕ → Type 0
-  IsOwnCommit object = object.0 ≡ kind.Commit → id_of hash object ≡ commit_id hash r directory
+  IsOwnCommit object = object.0 ≡ kind.Commit → id_of hash object ≡ commit_id hash r output
 
   abbrev IsNoCommit : Kind × List ℕ → Type 0
   IsNoCommit object = object.0 ≡ kind.Commit → ⊥
@@ -112,26 +118,22 @@ module _ (hash : HashKind) (r : CommitRequest) (directory : Directory) where
 
   no_blobs : (edits : List PathEdit) → AllByRecursion IsNoCommit (blobs_of edits)
   no_blobs [] = tt
-  no_blobs (one ∷ edits) = All-append IsNoCommit (blobs_in one) (blobs_of edits) (blob_in one) (no_blobs edits)
+  no_blobs (one ∷ edits) = all_both IsNoCommit (blobs_in one) (blobs_of edits) (blob_in one) (no_blobs edits)
 
-  no_trees : (d : Directory) → AllByRecursion IsNoCommit (trees_below hash d)
-  no_trees End = tt
-  no_trees (File n x rest) = no_trees rest
-  no_trees (Sub n inner rest) =
-      All-append IsNoCommit (trees_below hash inner ++ tree_of hash inner ∷ []) (trees_below hash rest)
-      (All-append IsNoCommit (trees_below hash inner) (tree_of hash inner ∷ []) (no_trees inner) (tree_is_none, tt))
-      (no_trees rest)
+  no_trees : (listed : List (List Entry)) → AllByRecursion IsNoCommit (map tree_with listed)
+  no_trees [] = tt
+  no_trees (rows ∷ listed) = (tree_is_none, no_trees listed)
 
-  none_brought : AllByRecursion IsNoCommit (brought hash r directory)
-  none_brought = All-append IsNoCommit (blobs_of r.edits) (trees_of hash directory) (no_blobs r.edits)
-      (All-append IsNoCommit (trees_below hash directory) (tree_of hash directory ∷ []) (no_trees directory) (tree_is_none, tt))
+  module _ (view : View) (m : Makes r view output) where
+    none_brought : AllByRecursion IsNoCommit (brought r output)
+    none_brought = all_both IsNoCommit (blobs_of r.edits) output.trees (no_blobs r.edits) (subst (AllByRecursion IsNoCommit) (sym m.written.trees) (no_trees m.written.listed))
 
-  all_own : (xs : List (Kind × List ℕ)) → AllByRecursion IsNoCommit xs → AllByRecursion IsOwnCommit xs
-  all_own [] h = tt
-  all_own (x ∷ xs) h = ((λ e. absurd (h.0 e)), all_own xs h.1)
+    all_own : (xs : List (Kind × List ℕ)) → AllByRecursion IsNoCommit xs → AllByRecursion IsOwnCommit xs
+    all_own [] h = tt
+    all_own (x ∷ xs) h = ((λ e. absurd (h.0 e)), all_own xs h.1)
 
-  own_written : AllByRecursion IsOwnCommit (written_objects hash r directory)
-  own_written = All-append IsOwnCommit (brought hash r directory) ((kind.Commit, commit_text hash r directory) ∷ []) (all_own (brought hash r directory) none_brought) ((λ e. refl), tt)
+    own_written : AllByRecursion IsOwnCommit (written_objects r output)
+    own_written = all_both IsOwnCommit (brought r output) ((kind.Commit, commit_text r output) ∷ []) (all_own (brought r output) none_brought) ((λ e. refl), tt)
 
 module _ (hash : HashKind) (objects : List (Kind × List ℕ)) (old new : Content) (adds : Adds hash objects old new) (id : ObjectId) (bytes : List ℕ) (is : lookup new id ≡ Some (kind.Commit, bytes)) where
   else_tree : Option (Kind × List ℕ)
@@ -160,15 +162,6 @@ record Known (hash : HashKind) (content : Content) (calls : List Call) : Type 0 
   lines : (call : Call) (id : ObjectId) → Contains calls call → call.stored ≡ Some id → (line : List CommitRequest) × IsLine calls id (call.request ∷ line)
 
 -- ---- lists
-
-none_in : {X : Type 0} (x : X) → Contains [] x → ⊥
-none_in x h = absurd (omega (arith, h.1))
-
-at_head : {X : Type 0} (x : X) (xs : List X) → Contains (x ∷ xs) x
-at_head x xs = (0, omega arith, refl)
-
-at_tail : {X : Type 0} (x : X) (xs : List X) (y : X) → Contains xs y → Contains (x ∷ xs) y
-at_tail x xs y h = (suc h.0, (let less = h.1 in omega arith), h.2)
 
 before_last : {X : Type 0} (xs : List X) (x y : X) → Contains xs y → Contains (xs ++ x ∷ []) y
 before_last [] x y h = absurd (none_in y h)
@@ -204,9 +197,17 @@ from_kept : (hash : HashKind) (old new : Content) (parents : List ObjectId) (bas
 from_kept hash old new [] base keeps h = h
 from_kept hash old new (parent ∷ parents) base keeps h = map_kept hash old new parent base keeps h
 
-from_base : (state : State) (parents : List ObjectId) (base : PathMap) → IsBase (whole state) parents base → IsFrom state.hash state.content parents base
-from_base state [] base h = h
-from_base state (parent ∷ parents) base h = h
+is_base : (state : State) (parents : List ObjectId) (base : PathMap) → IsFrom state.hash state.content parents base → IsBase (whole state) parents base
+is_base state [] base h = h
+is_base state (parent ∷ parents) base h = h
+
+-- the base of a request has a map, since each commit that is stored has one
+base_known : (state : State) (calls : List Call) → Known state.hash state.content calls → (parents : List ObjectId) (entries : List Entry) → IsBaseTree (whole state) parents entries → (base : PathMap) × IsFrom state.hash state.content parents base
+base_known state calls known [] entries is = (no_paths, refl)
+base_known state calls known (parent ∷ parents) entries is =
+    let one = known.all parent is.has_tree.bytes is.has_tree.stored in
+    let m = known.made one.0 parent one.1 one.2 in
+    (edited state.hash m.base one.0.request.edits, m.is_map)
 
 -- what a call that left a commit says of it, over the content before
 record MadeFrom (hash : HashKind) (old new : Content) (r : CommitRequest) (id : ObjectId) : Type 0 where
@@ -257,7 +258,7 @@ module _ (hash : HashKind) (old new : Content) (calls : List Call) (call : Call)
 
 -- ---- the cases of a call
 
-module _ (settings : Settings) (calls : List Call) (call : Call) (old new : State) (known : Known old.hash old.content calls) (premises : (directory : Directory) → Makes call.request (whole old) directory → Premises call.request old directory) where
+module _ (laws : LawsBelow) (settings : Settings) (calls : List Call) (call : Call) (old new : State) (known : Known old.hash old.content calls) (premises : (output : Output) → Makes call.request (whole old) output → Premises call.request old output) where
   no_id : (o : Option ObjectId) (id : ObjectId) → o ≡ None → o ≡ Some id → ⊥
   no_id o id none some = let both : ◌≡◌ {A = Option ObjectId} None (Some id) = sym none ∙ some in cc
 
@@ -266,17 +267,19 @@ module _ (settings : Settings) (calls : List Call) (call : Call) (old new : Stat
       let hash = old.hash in
       let r = call.request in
       let makes = a.admitted.objects.trees.makes in
-      let p = premises a.directory makes in
-      let objects = written_objects hash r a.directory in
-      known_after hash old.content new.content calls call known (kept hash objects old.content new.content p.ids a.adds)
+      let p = premises a.output makes in
+      let objects = written_objects r a.output in
+      let base = base_known old calls known r.parents makes.edits.entries makes.edits.is_base in
+      known_after hash old.content new.content calls call known (kept laws.found hash objects old.content new.content p.ids a.adds)
       (λ other bytes is. ⊎_elim (λ was. inl was)
-      (λ added. inr (let found = found_among hash (IsOwnCommit hash r a.directory) objects other (kind.Commit, bytes) (own_written hash r a.directory) added in
+      (λ added. inr (let found = found_among hash (IsOwnCommit hash r a.output) objects other (kind.Commit, bytes) (own_written hash r a.output (whole old) makes) added in
       left ∙ ap Some (a.is_id ∙ sym (found.0 refl) ∙ found.1)))
       (was_or_added hash objects old.content new.content a.adds other bytes is))
       (λ other is. record {
-        base = makes.edits.base;
-        from = from_base old r.parents makes.edits.base makes.edits.is_base;
-        is_map = subst (λ i. IsMapOf hash new.content i (edited hash makes.edits.base r.edits)) (sym a.is_id ∙ same other is) (new_map r old a.directory makes a.admitted.objects.identities p new.content a.adds);
+        base = base.0;
+        from = base.1;
+        is_map = subst (λ i. IsMapOf hash new.content i (edited hash base.0 r.edits)) (sym a.is_id ∙ same other is)
+            (new_map laws settings r old a.output a.admitted.objects.trees a.admitted.objects.identities p new.content a.adds base.0 (is_base old r.parents base.0 base.1));
       })
     where
       one : (x y : ObjectId) → Some x ≡ Some y → x ≡ y
@@ -290,13 +293,13 @@ module _ (settings : Settings) (calls : List Call) (call : Call) (old new : Stat
       let hash = old.hash in
       let r = call.request in
       let makes = a.admitted.objects.trees.makes in
-      let p = premises a.directory makes in
-      let apart : AreApart hash old.content (brought hash r a.directory) = apart_before hash old.content (brought hash r a.directory) ((kind.Commit, commit_text hash r a.directory) ∷ []) p.ids in
+      let p = premises a.output makes in
+      let apart : AreApart hash old.content (brought r a.output) = apart_before hash old.content (brought r a.output) ((kind.Commit, commit_text r a.output) ∷ []) p.ids in
       let first_apart : AreApart hash old.content a.first = apart_before hash old.content a.first a.rest (subst (AreApart hash old.content) a.split apart) in
-      let no_commit : AllByRecursion (IsNoCommit hash r a.directory) a.first = All-before (IsNoCommit hash r a.directory) a.first a.rest (subst (AllByRecursion (IsNoCommit hash r a.directory)) a.split (none_brought hash r a.directory)) in
-      known_after hash old.content new.content calls call known (kept hash a.first old.content new.content first_apart a.adds)
+      let no_commit : AllByRecursion (IsNoCommit hash r a.output) a.first = all_before (IsNoCommit hash r a.output) a.first a.rest (subst (AllByRecursion (IsNoCommit hash r a.output)) a.split (none_brought hash r a.output (whole old) makes)) in
+      known_after hash old.content new.content calls call known (kept laws.found hash a.first old.content new.content first_apart a.adds)
       (λ other bytes is. ⊎_elim (λ was. inl was)
-      (λ added. absurd ((found_among hash (IsNoCommit hash r a.directory) a.first other (kind.Commit, bytes) no_commit added).0 refl))
+      (λ added. absurd ((found_among hash (IsNoCommit hash r a.output) a.first other (kind.Commit, bytes) no_commit added).0 refl))
       (was_or_added hash a.first old.content new.content a.adds other bytes is))
       (λ other is. absurd (no_id call.stored other none is))
 
@@ -308,7 +311,7 @@ module _ (settings : Settings) (calls : List Call) (call : Call) (old new : Stat
       (λ id is. absurd (no_id call.stored id none is))
 
   accepted : (stored id : ObjectId) → stored ≡ id → Accepts settings call.request old id new → AddsCommit settings call.request old stored new
-  accepted stored id same a = record { directory = a.directory; way = a.way; admitted = a.admitted; is_id = same ∙ a.is_id; adds = a.adds }
+  accepted stored id same a = record { output = a.output; way = a.way; admitted = a.admitted; is_id = same ∙ a.is_id; adds = a.adds }
 
   after_left : (answer : Result ObjectId CommitEditsError) (stored : Option ObjectId) → call.stored ≡ stored → Left settings call.request old answer stored new → Known old.hash new.content (calls ++ call ∷ [])
   after_left (Ok id) (Some stored) is left = after_commit stored is (accepted stored id left.0 left.1)
@@ -332,22 +335,22 @@ nothing_known state empty = record {
     tree_only true bytes e = tree_is_none (one_kind kind.Tree kind.Commit [] bytes e)
     tree_only false bytes e = cc
 
-known_along : (settings : Settings) (calls done : List Call) (start end : State) → Known start.hash start.content done → History settings start calls end → Known end.hash end.content (done ++ calls)
-known_along settings [] done start end known h = subst (λ (s : State). Known s.hash s.content (done ++ [])) (sym h) (subst (Known start.hash start.content) (sym (append-nil done)) known)
-known_along settings (call ∷ calls) done start end known h =
+known_along : (laws : LawsBelow) (settings : Settings) (calls done : List Call) (start end : State) → Known start.hash start.content done → History settings start calls end → Known end.hash end.content (done ++ calls)
+known_along laws settings [] done start end known h = subst (λ (s : State). Known s.hash s.content (done ++ [])) (sym h) (subst (Known start.hash start.content) (sym (append-nil done)) known)
+known_along laws settings (call ∷ calls) done start end known h =
     subst (Known end.hash end.content) (append_assoc done (call ∷ []) calls)
-    (known_along settings calls (done ++ call ∷ []) h.0 end (after_call settings done call start h.0 known h.1 h.2) h.3)
+    (known_along laws settings calls (done ++ call ∷ []) h.0 end (after_call laws settings done call start h.0 known h.1 h.2) h.3)
 
-known_at_end : (settings : Settings) (start end : State) (calls : List Call) → IsEmpty start → History settings start calls end → Known end.hash end.content calls
-known_at_end settings start end calls empty h = known_along settings calls [] start end (nothing_known start empty) h
+known_at_end : (laws : LawsBelow) (settings : Settings) (start end : State) (calls : List Call) → IsEmpty start → History settings start calls end → Known end.hash end.content calls
+known_at_end laws settings start end calls empty h = known_along laws settings calls [] start end (nothing_known start empty) h
 
 -- ---- the law
 
-module _ (hash : HashKind) (content : Content) (calls : List Call) (known : Known hash content calls) where
+module _ (unique : MapIsUnique) (hash : HashKind) (content : Content) (calls : List Call) (known : Known hash content calls) where
   base_of_line : (parents : List ObjectId) (line : List CommitRequest) (base : PathMap) → IsFrom hash content parents base → ((parent : ObjectId) → IsLine calls parent line → IsMapOf hash content parent (line_map hash line))
       → ByParent parents (line ≡ []) (λ parent. IsLine calls parent line) → base ≡ line_map hash line
   base_of_line [] line base from same h = from ∙ ap (line_map hash) (sym h)
-  base_of_line (parent ∷ parents) line base from same h = one_map hash content parent base (line_map hash line) from (same parent h)
+  base_of_line (parent ∷ parents) line base from same h = one_map hash content unique parent base (line_map hash line) from (same parent h)
 
   map_of_line : (line : List CommitRequest) (id : ObjectId) → IsLine calls id line → IsMapOf hash content id (line_map hash line)
   map_of_line [] id h = absurd h
@@ -355,12 +358,12 @@ module _ (hash : HashKind) (content : Content) (calls : List Call) (known : Know
       let m : IsMade hash content r id = subst (λ q. IsMade hash content q id) h.0.requested (known.made h.0.call id h.0.among h.0.left) in
       subst (λ base. IsMapOf hash content id (edited hash base r.edits)) (base_of_line r.parents line m.base m.from (λ parent. map_of_line line parent) h.1) m.is_map
 
-module _ (settings : Settings) (start end : State) (calls : List Call) (empty : IsEmpty start) (h : History settings start calls end) where
+module _ (laws : LawsBelow) (settings : Settings) (start end : State) (calls : List Call) (empty : IsEmpty start) (h : History settings start calls end) where
   pub each_line : (id : ObjectId) (line : List CommitRequest) → IsLine calls id line → IsMapOf end.hash end.content id (line_map end.hash line)
-  each_line id line is = map_of_line end.hash end.content calls (known_at_end settings start end calls empty h) line id is
+  each_line id line is = map_of_line laws.unique end.hash end.content calls (known_at_end laws settings start end calls empty h) line id is
 
   pub some_line : (call : Call) (id : ObjectId) → Contains calls call → call.stored ≡ Some id → (earlier : List CommitRequest) × IsLine calls id (call.request ∷ earlier)
-  some_line call id among left = (known_at_end settings start end calls empty h).lines call id among left
+  some_line call id among left = (known_at_end laws settings start end calls empty h).lines call id among left
 
   pub stored_line : (call : Call) (id : ObjectId) → Contains calls call → call.stored ≡ Some id
       → (earlier : List CommitRequest) × IsLine calls id (call.request ∷ earlier) × IsMapOf end.hash end.content id (line_map end.hash (call.request ∷ earlier))
@@ -386,6 +389,6 @@ accepted_stored settings (one ∷ calls) start end h call id (zero, less, at) is
     subst (λ (c : Call). c.answer ≡ Ok id → c.stored ≡ Some id) at (answered settings one.request start h.0 one.answer one.stored id h.2.left) is
 accepted_stored settings (one ∷ calls) start end h call id (suc k, less, at) is = accepted_stored settings calls h.0 end h.3 call id (k, omega (arith, less), at) is
 
-pub accepted_line : (settings : Settings) (start end : State) (calls : List Call) → IsEmpty start → History settings start calls end → (call : Call) (id : ObjectId) → Contains calls call → call.answer ≡ Ok id
+pub accepted_line : (laws : LawsBelow) (settings : Settings) (start end : State) (calls : List Call) → IsEmpty start → History settings start calls end → (call : Call) (id : ObjectId) → Contains calls call → call.answer ≡ Ok id
     → (earlier : List CommitRequest) × IsLine calls id (call.request ∷ earlier) × IsMapOf end.hash end.content id (line_map end.hash (call.request ∷ earlier))
-accepted_line settings start end calls empty h call id among is = stored_line settings start end calls empty h call id among (accepted_stored settings calls start end h call id among is)
+accepted_line laws settings start end calls empty h call id among is = stored_line laws settings start end calls empty h call id among (accepted_stored settings calls start end h call id among is)

@@ -1,18 +1,19 @@
 -- A request that may be made has no cause to be refused.
-use Rattle.std.proofs.Common.{◌≡◌, ◌≢◌, ◌∙◌, sym, ap, refl, subst, arith, List, [], ◌∷◌, map, ℕ, suc, zero, Bool, true, false, true≢false, not, ◌&&◌, cond, Option, Some, None, IsSome, Contains, ◌⊎◌, ⊎_elim}
+use Rattle.std.proofs.Common.{◌≡◌, ◌≢◌, ◌∙◌, sym, ap, refl, subst, List, [], ◌∷◌, map, ℕ, Bool, true, false, true≢false, not, ◌&&◌, Option, Some, None, IsSome, Contains, inl, inr, ◌⊎◌, ⊎_elim}
 use Rattle.std.specs.Prelude.{codes}
-use Rattle.std.specs.Str.{bytes_eq}
 use Rattle.std.specs.List.{AllByRecursion, list_all}
 use Rattle.std.specs.FinMap.{get}
 use Rattle.std.proofs.lemmas.List.Folds.{list_all-append}
 use Rattle.gx_hash.specs.declared.oid.ObjectId.{ObjectId}
+use Rattle.gx_hash.specs.ObjectIds.{has_id}
 use Rattle.gx_object.specs.declared.kind.Kind.{Kind}
 use Rattle.gx_object.specs.declared.kind.Kind.TheVariants as kind
 use Rattle.gx_object.specs.declared.encode.Field.{Field}
 use Rattle.gx_object.specs.declared.encode.Field.TheVariants as field
+use Rattle.gx_object.specs.declared.tree.Entry.{Entry}
 use Rattle.gx_object.specs.declared.tree.EntryKind.{EntryKind}
-use Rattle.gx_object.specs.CommitSpelling.{SpellsCommit}
 use Rattle.gx_object.specs.Identity.{is_writable_text, is_writable_offset, is_writable_identity, are_writable}
+use Rattle.gx_object.specs.Tree.{is_writable_filename}
 use Rattle.gx_object.specs.declared.signature.Signature.{Signature}
 use Rattle.gx_rules.specs.Component.{Violates, IsFirstViolated}
 use Rattle.gx_rules.specs.declared.component_error.ComponentError.{ComponentError}
@@ -20,30 +21,28 @@ use Rattle.gx_store.specs.Conflict.{Conflict}
 use Rattle.gx_store.specs.Content.{lookup, id_of}
 use Rattle.gx_store.specs.declared.target.Target.{Target}
 use Rattle.gx_store.specs.declared.target.Target.TheVariants as target
-use Rattle.gx_edit.specs.Path.{Path, IsName}
-use Rattle.gx_edit.specs.PathMap.{PathMap}
-use Rattle.gx_edit.specs.CanonicalTree.{Directory, leaf_at, IsCanonical}
-use Rattle.gx_edit.specs.CanonicalTree.Directory.{End, File, Sub}
-use Rattle.gx_hash.specs.ObjectIds.{has_id}
-use Rattle.gx_edit.specs.CanonicalTree.{entries_within}
 use Rattle.gx_edit.specs.Entries.{IsSafe, IsEntry, is_link}
-use Rattle.gx_edit.specs.declared.leaf.Leaf.{Leaf}
+use Rattle.gx_edit.specs.Output.{Output}
+use Rattle.gx_edit.specs.PathMap.{blobs_of}
+use Rattle.gx_edit.specs.View.{only, names_of}
+use Rattle.gx_edit.specs.Written.{IsOutputOfView}
 use Rattle.gx_edit.specs.declared.path_edit.PathEdit.{PathEdit}
-use Rattle.gx_edit.proofs.PathLemmas.{bytes_eq-is}
 use Rattle.gx_refs.specs.Chain.{Cycles, IsTooDeep}
 use Rattle.gx_refs.specs.Laws.Fate.{Ending, Cycling, TooDeep}
-use Rattle.gx_refs.proofs.FateLemmas.{meets_one}
 use Rattle.gix.specs.declared.settings.Settings.{Settings}
 use Rattle.gix.specs.declared.error.CommitEditsError.{CommitEditsError}
 use Rattle.gix.specs.declared.error.CommitEditsError.TheVariants as error
 use Rattle.gix.specs.CommitRequest.{CommitRequest}
 use Rattle.gix.specs.View.{State, whole}
-use Rattle.gix.specs.Base.{IsMapOf, IsBase, OfFirst}
-use Rattle.gix.specs.Trees.{has_gap, have_names, brought, IsFound}
+use Rattle.gix.specs.Base.{HasTree, IsBaseTree, OfFirst}
+use Rattle.gix.specs.Trees.{IsLoadedBy, Makes, has_gap, have_names, brought, IsFound}
+use Rattle.gix.specs.LawsBelow.{LawsBelow}
 use Rattle.gix.specs.Reference.{Way, IsAllowed}
 use Rattle.gix.specs.Admission.{AreWritable, IsAdmitted}
-use Rattle.gix.specs.Causes.{IsReadAs, IsAbsent, IsOther, IsBadCommit, IsBadTree, IsFirstGap, OfEntry, IsMissing, HasZero, IsUnwritable, EndsAt, Cause}
-use Rattle.gix.proofs.OnceLemmas.{one_kind, one_text, tree_is_read, one_made, one_directory_made, one_end, one_found}
+use Rattle.gix.specs.Causes.{IsReadAs, IsAbsent, IsOther, IsBad, SpellsNone, IsFirstGap, OfEntry, IsMissing, IsUnwritable, EndsAt, Cause}
+use Rattle.gix.proofs.Lists.{all_at, found_in, is_found, mapped_from, in_mapped, front_or_back, in_front, in_back}
+use Rattle.gix.proofs.OnceLemmas.{one_kind, one_text, one_tree, one_root, one_view, one_end, one_found}
+use Rattle.gix.proofs.OutputLemmas.{same_entry, same_tree}
 
 both_left : (a b : Bool) → (a && b) ≡ true → a ≡ true
 both_left true b h = refl
@@ -53,40 +52,47 @@ both_right : (a b : Bool) → (a && b) ≡ true → b ≡ true
 both_right true b h = h
 both_right false b h = absurd (true≢false (sym h))
 
-pub all_at : {A : Type 0} (P : A → Type 0) (xs : List A) (x : A) → AllByRecursion P xs → Contains xs x → P x
-all_at P [] x all h = absurd (omega (arith, h.1))
-all_at P (y ∷ xs) x all (zero, less, is) = subst P is all.0
-all_at P (y ∷ xs) x all (suc k, less, is) = all_at P xs x all.1 (k, omega (arith, less), is)
-
 pub not_stored : {A : Type 0} (x : A) → ◌≡◌ {A = Option A} (Some x) None → ⊥
 not_stored x same = cc
 
--- ---- the base
+-- ---- what is read
 
-pub of_first : (state : State) (parents : List ObjectId) (base : PathMap) (P : ObjectId → Type 0) → IsBase (whole state) parents base → OfFirst parents P → ((parent : ObjectId) → IsMapOf state.hash state.content parent base → P parent → ⊥) → ⊥
-of_first state [] base P is h f = h
-of_first state (parent ∷ parents) base P is h f = f parent is h
+-- an object is stored as one of the kind, and its bytes spell one
+pub record IsKnown (state : State) (id : ObjectId) (wanted : Kind) : Type 0 where
+  pub bytes : List ℕ
+  pub stored : lookup state.content id ≡ Some (wanted, bytes)
+  pub spelled : SpellsNone state.hash wanted bytes → ⊥
 
-module _ (state : State) (base : PathMap) (parent : ObjectId) (is : IsMapOf state.hash state.content parent base) where
-  stored_as : (id : ObjectId) (wanted : Kind) → IsReadAs state.hash state.content parent id wanted → (bytes : List ℕ) × (lookup state.content id ≡ Some (wanted, bytes))
-  stored_as id kind.Commit read = (is.has_tree.bytes, ap (lookup state.content) read ∙ is.has_tree.stored)
-  stored_as id kind.Tree read = (tree_is_read state.hash state.content parent read.tree id base is read.has_tree read.within).0
-  stored_as id kind.Blob read = absurd read
-  stored_as id kind.Tag read = absurd read
+module _ (r : CommitRequest) (state : State) (known : (id : ObjectId) (wanted : Kind) → IsReadAs r (whole state) id wanted → IsKnown state id wanted) where
+  pub never_absent : (id : ObjectId) → IsAbsent r (whole state) id → ⊥
+  never_absent id c = let at = known id c.wanted c.read in not_stored (c.wanted, at.bytes) (sym at.stored ∙ c.absent)
 
-  pub never_absent : (id : ObjectId) → IsAbsent state.hash state.content parent id → ⊥
-  never_absent id c = let at = stored_as id c.wanted c.read in not_stored (c.wanted, at.0) (sym at.1 ∙ c.absent)
+  pub never_other : (id : ObjectId) (actual : Kind) → IsOther r (whole state) id actual → ⊥
+  never_other id actual c = let at = known id c.wanted c.read in c.other.0 (one_kind actual c.wanted c.other.1 at.bytes (sym c.other.2 ∙ at.stored))
 
-  pub never_other : (id : ObjectId) (actual : Kind) → IsOther state.hash state.content parent id actual → ⊥
-  never_other id actual c = let at = stored_as id c.wanted c.read in c.other (one_kind actual c.wanted c.bytes at.0 (sym c.stored ∙ at.1))
+  pub never_bad : (id : ObjectId) → IsBad r (whole state) id → ⊥
+  never_bad id c =
+      let at = known id c.wanted c.read in
+      at.spelled (subst (SpellsNone state.hash c.wanted) (one_text c.wanted c.wanted c.bad.0 at.bytes (sym c.bad.1 ∙ at.stored)) c.bad.2)
 
-  pub never_bad_commit : (id : ObjectId) → IsBadCommit state.hash state.content parent id → ⊥
-  never_bad_commit id c =
-      let same : is.has_tree.bytes ≡ c.bytes = one_text kind.Commit kind.Commit is.has_tree.bytes c.bytes (sym is.has_tree.stored ∙ ap (lookup state.content) (sym c.is_parent) ∙ c.stored) in
-      c.spells_none is.has_tree.text (subst (λ b. SpellsCommit state.hash b is.has_tree.text) same is.has_tree.spelled)
+commit_known : (state : State) (parents : List ObjectId) (entries : List Entry) (id : ObjectId) → IsBaseTree (whole state) parents entries → OfFirst parents (λ parent. id ≡ parent) → IsKnown state id kind.Commit
+commit_known state [] entries id is read = absurd read
+commit_known state (parent ∷ parents) entries id is read = record { bytes = is.has_tree.bytes; stored = ap (lookup state.content) read ∙ is.has_tree.stored; spelled = λ none. none is.has_tree.text is.has_tree.spelled }
 
-  pub never_bad_tree : (id : ObjectId) → IsBadTree state.hash state.content parent id → ⊥
-  never_bad_tree id c = (tree_is_read state.hash state.content parent c.tree id base is c.has_tree c.within).1 c.no_map
+root_known : (state : State) (parents : List ObjectId) (entries : List Entry) (id : ObjectId) → IsBaseTree (whole state) parents entries → OfFirst parents (λ parent. HasTree state.hash state.content parent id) → IsKnown state id kind.Tree
+root_known state [] entries id is read = absurd read
+root_known state (parent ∷ parents) entries id is read =
+    let same : id ≡ is.tree = one_tree state.hash state.content parent id is.tree read is.has_tree in
+    record { bytes = is.bytes; stored = ap (lookup state.content) same ∙ is.stored; spelled = λ none. none entries is.spelled }
+
+-- what a request reads is known where its base is, and what its edits load
+pub known_of : (r : CommitRequest) (state : State) (entries : List Entry) → IsBaseTree (whole state) r.parents entries → ((id : ObjectId) → IsLoadedBy (whole state) (only (names_of entries)) r.edits id → IsKnown state id kind.Tree)
+    → (id : ObjectId) (wanted : Kind) → IsReadAs r (whole state) id wanted → IsKnown state id wanted
+known_of r state entries is loads id kind.Commit read = commit_known state r.parents entries id is read
+known_of r state entries is loads id kind.Tree (inl root) = root_known state r.parents entries id is root
+known_of r state entries is loads id kind.Tree (inr l) = loads id (subst (λ es. IsLoadedBy (whole state) (only (names_of es)) r.edits id) (one_root state r.parents l.entries entries l.is_base is) l.loaded)
+known_of r state entries is loads id kind.Blob read = absurd read
+known_of r state entries is loads id kind.Tag read = absurd read
 
 -- ---- the edits
 
@@ -95,33 +101,6 @@ never_gap edits path named c =
     let f : PathEdit → Bool = λ edit. not (has_gap edit) in
     let parts : (list_all f c.before && (f c.edit && list_all f c.after)) ≡ true = sym (list_all-append f c.before (c.edit ∷ c.after)) ∙ sym (ap have_names c.split) ∙ named in
     true≢false (sym (both_left (f c.edit) (list_all f c.after) (both_right (list_all f c.before) (f c.edit && list_all f c.after) parts)) ∙ ap not c.gap)
-
--- ---- names of a canonical directory
-
-are_names : (d : Directory) (p : Path) (x : Leaf) → IsCanonical d → leaf_at d p ≡ Some x → AllByRecursion IsName p
-are_names End p x ok h = absurd (not_stored x (sym h))
-are_names (File n y rest) [] x ok h = tt
-are_names (File n y rest) (c ∷ []) x ok h = go (bytes_eq n c) refl h (are_names rest (c ∷ []) x ok.2)
-  where
-    go : (t : Bool) → bytes_eq n c ≡ t → cond t (Some y) (leaf_at rest (c ∷ [])) ≡ Some x → (leaf_at rest (c ∷ []) ≡ Some x → AllByRecursion IsName (c ∷ [])) → AllByRecursion IsName (c ∷ [])
-    go true e h more = (subst IsName (bytes_eq-is n c e) ok.0, tt)
-    go false e h more = more h
-are_names (File n y rest) (c ∷ d ∷ p) x ok h = are_names rest (c ∷ d ∷ p) x ok.2 h
-are_names (Sub n inner rest) [] x ok h = tt
-are_names (Sub n inner rest) (c ∷ p) x ok h = go (bytes_eq n c) refl h (are_names inner p x ok.2) (are_names rest (c ∷ p) x ok.4)
-  where
-    go : (t : Bool) → bytes_eq n c ≡ t → cond t (leaf_at inner p) (leaf_at rest (c ∷ p)) ≡ Some x → (leaf_at inner p ≡ Some x → AllByRecursion IsName p) → (leaf_at rest (c ∷ p) ≡ Some x → AllByRecursion IsName (c ∷ p)) → AllByRecursion IsName (c ∷ p)
-    go true e h within more = (subst IsName (bytes_eq-is n c e) ok.0, within h)
-    go false e h within more = more h
-
-zero_never : (d : Directory) (p : Path) (name : List ℕ) (found : Option Leaf) → IsCanonical d → leaf_at d p ≡ found → IsSome found → Contains p name → Contains name 0 → ⊥
-zero_never d p name None ok at some among is_there = absurd (no_leaf some)
-  where
-    no_leaf : IsSome {T = Leaf} None → ⊥
-    no_leaf h = cc
-zero_never d p name (Some x) ok at some among is_there =
-    let named : IsName name = all_at IsName p name (are_names d p x ok at) among in
-    named.no_zero is_there
 
 -- ---- identities
 
@@ -177,33 +156,49 @@ none_some h = cc
 
 -- ---- each cause
 
-module _ (settings : Settings) (r : CommitRequest) (state : State) (directory : Directory) (way : Way) (a : IsAdmitted settings r (whole state) directory way) where
-  pub not_of_base : (P : ObjectId → Type 0) → OfFirst r.parents P → ((parent : ObjectId) → IsMapOf state.hash state.content parent a.objects.trees.makes.edits.base → P parent → ⊥) → ⊥
-  not_of_base P h f = of_first state r.parents a.objects.trees.makes.edits.base P a.objects.trees.makes.edits.is_base h f
+module _ (laws : LawsBelow) (settings : Settings) (r : CommitRequest) (state : State) (output : Output) (way : Way) (a : IsAdmitted settings r (whole state) output way) where
+  -- what is written of the request is written of one view
+  as_here : (other : Output) → Makes r (whole state) other → IsOutputOfView state.hash a.objects.trees.makes.end other
+  as_here other m = subst (λ v. IsOutputOfView state.hash v other) (one_view laws.exists r state m.end a.objects.trees.makes.end m.edits a.objects.trees.makes.edits) m.written
 
-  pub not_unsafe : (filename : List ℕ) (entry_kind : EntryKind) (id : ObjectId) (source : ComponentError) → OfEntry r (whole state) (λ directory entry. IsEntry entry filename entry_kind id × IsFirstViolated filename (is_link entry) settings.protect source) → ⊥
+  entry_here : (other : Output) → Makes r (whole state) other → (entry : Entry) → Contains other.entries entry → Contains output.entries entry
+  entry_here other m = same_entry laws.once state.hash a.objects.trees.makes.end other output (as_here other m) a.objects.trees.makes.written
+
+  tree_there : (other : Output) → Makes r (whole state) other → (tree : Kind × List ℕ) → Contains output.trees tree → Contains other.trees tree
+  tree_there other m = same_tree laws.once state.hash a.objects.trees.makes.end output other a.objects.trees.makes.written (as_here other m)
+
+  brought_there : (other : Output) → Makes r (whole state) other → (id : ObjectId) → has_id (map (id_of state.hash) (brought r output)) id ≡ true → has_id (map (id_of state.hash) (brought r other)) id ≡ true
+  brought_there other m id h =
+      let from = mapped_from (id_of state.hash) (brought r output) id (found_in (map (id_of state.hash) (brought r output)) id h) in
+      is_found (map (id_of state.hash) (brought r other)) id
+      (subst (Contains (map (id_of state.hash) (brought r other))) from.2 (in_mapped (id_of state.hash) (brought r other) from.0 (move from.0 (front_or_back (blobs_of r.edits) output.trees from.0 from.1))))
+    where
+      move : (object : Kind × List ℕ) → Contains (blobs_of r.edits) object ⊎ Contains output.trees object → Contains (brought r other) object
+      move object (inl blob) = in_front (blobs_of r.edits) other.trees object blob
+      move object (inr tree) = in_back (blobs_of r.edits) other.trees object (tree_there other m object tree)
+
+  pub not_unsafe : (filename : List ℕ) (entry_kind : EntryKind) (id : ObjectId) (source : ComponentError) → OfEntry r (whole state) (λ output entry. IsEntry entry filename entry_kind id × IsFirstViolated filename (is_link entry) settings.protect source) → ⊥
   not_unsafe filename entry_kind id source c =
-      let same : c.directory ≡ directory = one_directory_made r state c.directory directory c.makes a.objects.trees.makes in
-      let safe : IsSafe (Some settings.protect) c.entry = all_at (IsSafe (Some settings.protect)) (entries_within state.hash directory) c.entry a.objects.trees.safe (subst (λ d. Contains (entries_within state.hash d) c.entry) same c.within) in
-      safe source (subst (λ n. Violates n (is_link c.entry) settings.protect source) c.holds.0.named c.holds.1.broken)
+      let safe : IsSafe (Some settings.protect) c.some.entry = all_at (IsSafe (Some settings.protect)) output.entries c.some.entry a.objects.trees.safe (entry_here c.output c.makes c.some.entry c.some.among) in
+      safe source (subst (λ n. Violates n (is_link c.some.entry) settings.protect source) c.some.is.0.named c.some.is.1.broken)
 
-  pub not_missing : (filename : List ℕ) (entry_kind : EntryKind) (id : ObjectId) → OfEntry r (whole state) (λ directory entry. IsEntry entry filename entry_kind id × IsMissing r (whole state) directory entry) → ⊥
+  pub not_missing : (filename : List ℕ) (entry_kind : EntryKind) (id : ObjectId) → OfEntry r (whole state) (λ output entry. IsEntry entry filename entry_kind id × IsMissing r (whole state) output entry) → ⊥
   not_missing filename entry_kind id c =
-      let same : c.directory ≡ directory = one_directory_made r state c.directory directory c.makes a.objects.trees.makes in
-      let found : IsFound (whole state) (brought state.hash r directory) c.entry = all_at (IsFound (whole state) (brought state.hash r directory)) (entries_within state.hash directory) c.entry a.objects.trees.found (subst (λ d. Contains (entries_within state.hash d) c.entry) same c.within) in
-      ⊎_elim c.holds.1.not_stored (λ new. true≢false (sym new ∙ ap (λ d. has_id (map (id_of state.hash) (brought state.hash r d)) c.entry.oid) (sym same) ∙ c.holds.1.not_brought)) (found c.holds.1.no_submodule)
+      let found : IsFound (whole state) (brought r output) c.some.entry = all_at (IsFound (whole state) (brought r output)) output.entries c.some.entry a.objects.trees.found (entry_here c.output c.makes c.some.entry c.some.among) in
+      ⊎_elim c.some.is.1.not_stored (λ new. true≢false (sym (brought_there c.output c.makes c.some.entry.oid new) ∙ c.some.is.1.not_brought)) (found c.some.is.1.no_submodule)
 
-  pub not_zero : HasZero r (whole state) → ⊥
-  not_zero c =
-      let m = a.objects.trees.makes in
-      let same : m.new_map ≡ c.new_map = one_made r state m.new_map c.new_map m.edits c.edits in
-      zero_never directory c.path c.name (c.new_map c.path) m.stands.canonical (m.stands.leaves c.path ∙ ap (λ (f : PathMap). f c.path) same) c.stands c.among c.zero
+  pub not_unspelled : OfEntry r (whole state) (λ output entry. is_writable_filename entry.filename ≡ false) → ⊥
+  not_unspelled c = true≢false (sym (all_at (λ (entry : Entry). is_writable_filename entry.filename ≡ true) output.entries c.some.entry a.objects.trees.spelled (entry_here c.output c.makes c.some.entry c.some.among)) ∙ c.some.is)
+
+  known : (id : ObjectId) (wanted : Kind) → IsReadAs r (whole state) id wanted → IsKnown state id wanted
+  known = known_of r state a.objects.trees.makes.edits.entries a.objects.trees.makes.edits.is_base
+      (λ id loaded. let at = a.objects.trees.makes.edits.read id loaded in record { bytes = at.bytes; stored = at.stored; spelled = λ none. none at.entries at.spelled })
 
   not_part : (part : Field) → are_writable r.author r.committer part ≡ false → ⊥
   not_part part none = true≢false (sym (parts_are_writable r a.objects.identities part) ∙ none)
 
   pub not_unwritable : (part : Field) → IsUnwritable settings r (whole state) part → ⊥
-  not_unwritable field.FileName c = not_zero c
+  not_unwritable field.FileName c = not_unspelled c
   not_unwritable field.AuthorName c = not_part field.AuthorName c.2
   not_unwritable field.AuthorEmail c = not_part field.AuthorEmail c.2
   not_unwritable field.AuthorOffset c = not_part field.AuthorOffset c.2
@@ -218,21 +213,21 @@ module _ (settings : Settings) (r : CommitRequest) (state : State) (directory : 
   not_unwritable field.HeaderName c = not_part field.HeaderName c.2
 
   pub not_cycling : Cycles state.references.targets r.reference → ⊥
-  not_cycling c = apart (meets_one state.references.targets r.reference Ending Cycling way.names c.0 (way.end, way.found, a.reference.ends) c.1).0
+  not_cycling c = apart (laws.meets state.references.targets r.reference Ending Cycling way.names c.0 (way.end, way.found, a.reference.ends) c.1).0
     where
       apart : Ending ≡ Cycling → ⊥
       apart same = cc
 
   pub not_too_deep : IsTooDeep state.references.targets r.reference → ⊥
-  not_too_deep c = apart (meets_one state.references.targets r.reference Ending TooDeep way.names c.0 (way.end, way.found, a.reference.ends) c.1).0
+  not_too_deep c = apart (laws.meets state.references.targets r.reference Ending TooDeep way.names c.0 (way.end, way.found, a.reference.ends) c.1).0
     where
       apart : Ending ≡ TooDeep → ⊥
       apart same = cc
 
   ends_as : (name : List ℕ) (found : Option Target) → EndsAt r (whole state) name found → (way.end ≡ name) × (way.found ≡ found)
   ends_as name found c = (
-    one_end state.references.targets r.reference way.names c.0 way.end name way.found found a.reference.ends c.1,
-    one_found state.references.targets r.reference way.names c.0 way.end name way.found found a.reference.ends c.1,
+    one_end laws.meets state.references.targets r.reference way.names c.0 way.end name way.found found a.reference.ends c.1,
+    one_found laws.meets state.references.targets r.reference way.names c.0 way.end name way.found found a.reference.ends c.1,
   )
 
   pub not_taken : (name other : List ℕ) → Conflict name other → EndsAt r (whole state) name None → IsSome (get state.references.targets other) → ⊥
@@ -241,10 +236,9 @@ module _ (settings : Settings) (r : CommitRequest) (state : State) (directory : 
       none_some (subst IsSome (a.reference.free same.1 other (subst (λ n. Conflict n other) (sym same.0) conflict)) there)
 
   pub no_cause : (e : CommitEditsError) → Cause settings r (whole state) e → ⊥
-  no_cause (error.FindExistingObject id) c = not_of_base (λ parent. IsAbsent state.hash state.content parent id) c (λ parent is. never_absent state a.objects.trees.makes.edits.base parent is id)
-  no_cause (error.ObjectKind id actual) c = not_of_base (λ parent. IsOther state.hash state.content parent id actual) c (λ parent is. never_other state a.objects.trees.makes.edits.base parent is id actual)
-  no_cause (error.Decode id) c = not_of_base (λ parent. IsBadCommit state.hash state.content parent id ⊎ IsBadTree state.hash state.content parent id) c
-      (λ parent is. ⊎_elim (never_bad_commit state a.objects.trees.makes.edits.base parent is id) (never_bad_tree state a.objects.trees.makes.edits.base parent is id))
+  no_cause (error.FindExistingObject id) c = never_absent r state known id c
+  no_cause (error.ObjectKind id actual) c = never_other r state known id actual c
+  no_cause (error.Decode id) c = never_bad r state known id c
   no_cause (error.EmptyPathComponent path) c = never_gap r.edits path a.objects.trees.makes.edits.named c.1
   no_cause (error.InvalidFilename filename entry_kind id source) c = not_unsafe filename entry_kind id source c
   no_cause (error.MissingObject filename entry_kind id) c = not_missing filename entry_kind id c

@@ -1,30 +1,33 @@
--- A request has one base, makes one directory, and its reference leads one way.
+-- A request has one base, makes one view, and its reference leads one way.
 use Rattle.std.proofs.Common.{◌≡◌, ◌∙◌, sym, ap, subst, List, [], ◌∷◌, ℕ, Option, Some, Result, Ok}
 use Rattle.gx_hash.specs.declared.kind.HashKind.{HashKind}
 use Rattle.gx_hash.specs.declared.oid.ObjectId.{ObjectId}
 use Rattle.gx_hash.specs.ObjectId.{id_from_hex}
 use Rattle.gx_object.specs.declared.kind.Kind.{Kind}
 use Rattle.gx_object.specs.declared.kind.Kind.TheVariants as kind
+use Rattle.gx_object.specs.declared.tree.Entry.{Entry}
 use Rattle.gx_object.specs.CommitSpelling.{CommitText, SpellsCommit}
-use Rattle.gx_object.specs.Laws.{one_commit}
+use Rattle.gx_object.specs.TreeSpelling.{SpellsTree}
+use Rattle.gx_object.specs.Laws.{one_commit, tree_once}
 use Rattle.gx_rules.specs.Name.{name_cmp}
 use Rattle.std.specs.FinMap.{FinMap, get}
-use Rattle.gx_store.specs.Content.{Content}
+use Rattle.gx_store.specs.Content.{Content, lookup}
 use Rattle.gx_store.specs.declared.target.Target.{Target}
-use Rattle.gx_edit.specs.PathMap.{PathMap, edited}
-use Rattle.gx_edit.specs.CanonicalTree.{Directory, StandsFor, Represents}
-use Rattle.gx_edit.specs.ReadMapCauses.{IsStoredTree, IsAtOrBelow, HasNoMap}
-use Rattle.gx_edit.proofs.RootLemmas.{map_fixed}
-use Rattle.gx_edit.proofs.MapTreeLemmas.{trees_have_maps}
+use Rattle.gx_edit.specs.LawsView.{LoadExists}
+use Rattle.gx_edit.specs.PathMap.{PathMap}
+use Rattle.gx_edit.specs.StandsForMap.{HasMap}
+use Rattle.gx_edit.specs.View as directories
+use Rattle.gx_edit.specs.View.{only, names_of}
+use Rattle.gx_edit.specs.ViewOfEdits.{edited_view}
 use Rattle.gx_refs.specs.Chain.{EndsIn}
 use Rattle.gx_refs.specs.Laws.Fate.{Ending}
-use Rattle.gx_refs.proofs.FateLemmas.{meets_one}
+use Rattle.gx_refs.specs.Laws.{MeetsOne}
 use Rattle.gix.specs.CommitRequest.{CommitRequest}
 use Rattle.gix.specs.View.{State, whole}
-use Rattle.gix.specs.Base.{HasTree, IsMapOf, IsBase}
-use Rattle.gix.specs.Trees.{Edits, Makes}
+use Rattle.gix.specs.Base.{HasTree, HasEntries, IsMapOf, IsBaseTree, IsBase}
+use Rattle.gix.specs.Trees.{EditsView}
+use Rattle.gix.specs.LawsBelow.{MapIsUnique}
 use Rattle.gix.proofs.ReferenceLemmas.{one_last}
-use Rattle.gix.proofs.TreeLemmas.{same_directory}
 
 -- ---- what is stored under an id
 
@@ -46,32 +49,36 @@ module _ (hash : HashKind) (content : Content) where
       let text : a.text ≡ b.text = one_commit hash b.bytes a.text b.text (subst (λ x. SpellsCommit hash x a.text) bytes a.spelled) b.spelled in
       one_answer tree other (sym a.named ∙ ap (λ (t : CommitText). id_from_hex t.tree) text ∙ b.named)
 
-  pub one_map : (commit : ObjectId) (m n : PathMap) → IsMapOf hash content commit m → IsMapOf hash content commit n → m ≡ n
-  one_map commit m n a b =
+  one_list : (commit : ObjectId) (es fs : List Entry) → HasEntries hash content commit es → HasEntries hash content commit fs → es ≡ fs
+  one_list commit es fs a b =
+      let tree : a.tree ≡ b.tree = one_tree commit a.tree b.tree a.has_tree b.has_tree in
+      let bytes : a.bytes ≡ b.bytes = one_text kind.Tree kind.Tree a.bytes b.bytes (sym a.stored ∙ ap (lookup content) tree ∙ b.stored) in
+      tree_once hash b.bytes es fs (subst (λ x. SpellsTree hash x es) bytes a.spelled) b.spelled
+
+  pub one_map : (unique : MapIsUnique) (commit : ObjectId) (m n : PathMap) → IsMapOf hash content commit m → IsMapOf hash content commit n → m ≡ n
+  one_map unique commit m n a b =
       let same : b.tree ≡ a.tree = one_tree commit b.tree a.tree b.has_tree a.has_tree in
-      λ i p. map_fixed hash content a.tree m n a.ids b.ids a.represents (subst (λ t. Represents hash content t n) same b.represents) p i
+      let other : HasMap hash content a.tree n = subst (λ t. HasMap hash content t n) same b.has_map in
+      λ i p. unique hash content a.tree m n a.has_map.ids other.ids a.has_map.represents other.represents p i
 
-  -- what stands at or below the commit's tree is stored as a tree, and not without a map
-  pub tree_is_read : (commit tree id : ObjectId) (m : PathMap) → IsMapOf hash content commit m → HasTree hash content commit tree → IsAtOrBelow hash content tree id → IsStoredTree content id × ¬ HasNoMap hash content tree id
-  tree_is_read commit tree id m a has within =
-      let same : a.tree ≡ tree = one_tree commit a.tree tree a.has_tree has in
-      trees_have_maps hash content tree m a.ids a.own (subst (λ t. Represents hash content t m) same a.represents) id within
+pub one_root : (state : State) (parents : List ObjectId) (es fs : List Entry) → IsBaseTree (whole state) parents es → IsBaseTree (whole state) parents fs → es ≡ fs
+one_root state [] es fs a b = a ∙ sym b
+one_root state (parent ∷ parents) es fs a b = one_list state.hash state.content parent es fs a b
 
-pub one_base : (state : State) (parents : List ObjectId) (m n : PathMap) → IsBase (whole state) parents m → IsBase (whole state) parents n → m ≡ n
-one_base state [] m n a b = a ∙ sym b
-one_base state (parent ∷ parents) m n a b = one_map state.hash state.content parent m n a b
+-- ---- what the edits make of it
 
-pub one_made : (r : CommitRequest) (state : State) (m n : PathMap) → Edits r (whole state) m → Edits r (whole state) n → m ≡ n
-one_made r state m n a b = a.is_map ∙ ap (λ base. edited state.hash base r.edits) (one_base state r.parents a.base b.base a.is_base b.is_base) ∙ sym b.is_map
-
-pub one_directory_made : (r : CommitRequest) (state : State) (d e : Directory) → Makes r (whole state) d → Makes r (whole state) e → d ≡ e
-one_directory_made r state d e a b = same_directory d e a.stands (subst (StandsFor e) (one_made r state b.new_map a.new_map b.edits a.edits) b.stands)
+pub one_view : (exists : LoadExists) (r : CommitRequest) (state : State) (v w : directories.View) → EditsView r (whole state) v → EditsView r (whole state) w → v ≡ w
+one_view exists r state v w a b =
+    let load = exists state.hash state.content in
+    a.is_end load.0 load.1
+    ∙ ap (λ es. edited_view state.hash load.0 (only (names_of es)) r.edits) (one_root state r.parents a.entries b.entries a.is_base b.is_base)
+    ∙ sym (b.is_end load.0 load.1)
 
 -- ---- the way
 
-module _ (targets : FinMap name_cmp Target) (name : List ℕ) (names others : List (List ℕ)) (end stop : List ℕ) (found other : Option Target) (a : EndsIn targets name names end found) (b : EndsIn targets name others stop other) where
+module _ (meets : MeetsOne) (targets : FinMap name_cmp Target) (name : List ℕ) (names others : List (List ℕ)) (end stop : List ℕ) (found other : Option Target) (a : EndsIn targets name names end found) (b : EndsIn targets name others stop other) where
   pub one_end : end ≡ stop
-  one_end = one_last a.walks.before b.walks.before end stop (sym a.walks.last ∙ (meets_one targets name Ending Ending names others (end, found, a) (stop, other, b)).1 ∙ b.walks.last)
+  one_end = one_last a.walks.before b.walks.before end stop (sym a.walks.last ∙ (meets targets name Ending Ending names others (end, found, a) (stop, other, b)).1 ∙ b.walks.last)
 
   pub one_found : found ≡ other
   one_found = a.is ∙ ap (get targets) one_end ∙ sym b.is

@@ -13,8 +13,7 @@ use Rattle.gx_store.specs.State.{StoreState, OfFault}
 use Rattle.gx_store.specs.declared.error.StoreError.{StoreError}
 use Rattle.gx_store.specs.declared.error.StoreError.TheVariants as store_error
 use Rattle.gx_store.specs.declared.target.Target.{Target}
-use Rattle.gx_edit.specs.CanonicalTree.{Directory}
-use Rattle.gx_edit.proofs.PathLemmas.{bytes_eq-is}
+use Rattle.std.specs.Cmp.Lexicographic.{bytes_decides}
 use Rattle.gx_refs.specs.Chain.{is_among, AreDistinct, IsPath, EndsIn, IsOnChain}
 use Rattle.gx_refs.specs.Log.{log_line}
 use Rattle.gx_refs.specs.Moving.{previous_id, moved, MovesAlong, IsFaultAt}
@@ -36,8 +35,8 @@ unfolding object_id
 object_id_of_kind Sha1 kind_name bytes = refl
 object_id_of_kind Sha256 kind_name bytes = refl
 
-pub id_of_kind : (hash : HashKind) (r : CommitRequest) (directory : Directory) (objects : NewObjects) → AreObjects hash r directory objects → IsOfKind hash objects.id
-id_of_kind hash r directory objects a = subst (IsOfKind hash) (sym a.is_id) (object_id_of_kind hash _ _)
+pub id_of_kind : (hash : HashKind) (r : CommitRequest) (objects : NewObjects) → AreObjects hash r objects → IsOfKind hash objects.id
+id_of_kind hash r objects a = subst (IsOfKind hash) (sym a.is_id) (object_id_of_kind hash _ _)
 
 -- ---- a name on a reference's way
 
@@ -51,7 +50,7 @@ stands_in name [] h = cc
 stands_in name (n ∷ names) h = go (bytes_eq n name) refl h (stands_in name names)
   where
     go : (t : Bool) → bytes_eq n name ≡ t → (t || is_among name names) ≡ true → (is_among name names ≡ true → StandsIn names name) → StandsIn (n ∷ names) name
-    go true e h more = record { before = []; after = names; split = ap (λ m. m ∷ names) (bytes_eq-is n name e) }
+    go true e h more = record { before = []; after = names; split = ap (λ m. m ∷ names) ((bytes_decides n name).0 e) }
     go false e h more = let s = more h in record { before = n ∷ s.before; after = s.after; split = ap (λ l. n ∷ l) s.split }
 
 not_among : (name : List ℕ) (xs ys : List (List ℕ)) → is_among name (xs ++ ys) ≡ false → is_among name xs ≡ false
@@ -113,7 +112,6 @@ pub planned : (settings : Settings) (r : CommitRequest) (s : StoreState) (plan :
     → ((before : List (List ℕ)) (end : List ℕ) → chain.names ≡ before ++ end ∷ [] → IfSome s.references (λ refs. refs_after plan.changes.items refs ≡ moved Normal chain.names end plan.objects.id (log_line (previous_id s.hash chain.target) plan.objects.id r.committer text) refs))
     → (AreDistinct chain.names → HaveDistinctNames plan.changes.items) → AreChangesOfKind s.hash plan.changes.items → IsPlan settings r s plan
 planned settings r s plan o chain m text is along moves distinct kinds = record {
-  directory = o.directory;
   way = record { names = chain.names; end = m.end; found = chain.target };
   admitted = record { objects = o.may; reference = m.may };
   objects = o.are;

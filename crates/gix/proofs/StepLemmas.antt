@@ -8,14 +8,14 @@ use Rattle.gx_store.specs.Content.{Content, with_objects, Adds}
 use Rattle.gx_store.specs.State.{StoreState}
 use Rattle.gx_store.specs.declared.error.What.{What}
 use Rattle.gx_store.specs.declared.error.What.TheVariants as what
-use Rattle.gx_store.proofs.ContentLemmas.{writing_adds}
-use Rattle.gx_edit.specs.CanonicalTree.{Directory}
+use Rattle.gx_edit.specs.Output.{Output}
 use Rattle.gix.specs.declared.settings.Settings.{Settings}
 use Rattle.gix.specs.declared.error.CommitEditsError.{CommitEditsError}
 use Rattle.gix.specs.declared.error.CommitEditsError.TheVariants as error
 use Rattle.gix.specs.CommitRequest.{CommitRequest}
 use Rattle.gix.specs.View.{View, State, whole, view_of}
 use Rattle.gix.specs.Trees.{brought}
+use Rattle.gix.specs.LawsBelow.{LawsBelow}
 use Rattle.gix.specs.Reference.{Way}
 use Rattle.gix.specs.Admission.{IsAdmitted}
 use Rattle.gix.specs.CommitEdits.{Commits, Leaves, LeavesFault, HasBegun, IsTornBy, commit_id, commit_text, written_objects}
@@ -47,7 +47,7 @@ all_but_last (x ∷ xs) (y ∷ ys) a z zs same =
     let rest = all_but_last xs ys a z zs (same_others x y (xs ++ a ∷ []) (ys ++ z ∷ zs) same) in
     (rest.0, same_both x y xs (ys ++ rest.0) (same_first x y (xs ++ a ∷ []) (ys ++ z ∷ zs) same) rest.1)
 
-module _ (settings : Settings) (r : CommitRequest) (old new : StoreState) (before after : State) (was : view_of old ≡ whole before) (is : view_of new ≡ whole after) where
+module _ (laws : LawsBelow) (settings : Settings) (r : CommitRequest) (old new : StoreState) (before after : State) (was : view_of old ≡ whole before) (is : view_of new ≡ whole after) where
   abbrev Stepped : CommitEditsError → Type 0
   Stepped e = (stored : Option ObjectId) × CallStep settings (record { request = r; answer = Err e; stored = stored }) before after
 
@@ -62,13 +62,13 @@ module _ (settings : Settings) (r : CommitRequest) (old new : StoreState) (befor
   adds objects same =
       let told : option_map (with_objects before.hash objects) (Some before.content) ≡ Some after.content =
       sym (ap (λ (v : View). option_map (with_objects v.hash objects) v.content) was) ∙ sym same ∙ ap (λ (v : View). v.content) is in
-      subst (Adds before.hash objects before.content) (one_content (with_objects before.hash objects before.content) after.content told) (writing_adds before.hash objects before.content)
+      subst (Adds before.hash objects before.content) (one_content (with_objects before.hash objects before.content) after.content told) (laws.writing before.hash objects before.content)
 
-  admitted_in : (directory : Directory) (way : Way) → IsAdmitted settings r (view_of old) directory way → IsAdmitted settings r (whole before) directory way
-  admitted_in directory way a = subst (λ v. IsAdmitted settings r v directory way) was a
+  admitted_in : (output : Output) (way : Way) → IsAdmitted settings r (view_of old) output way → IsAdmitted settings r (whole before) output way
+  admitted_in output way a = subst (λ v. IsAdmitted settings r v output way) was a
 
-  whole_commit : (directory : Directory) (way : Way) → IsAdmitted settings r (view_of old) directory way → Adds before.hash (written_objects before.hash r directory) before.content after.content → AddsCommit settings r before (commit_id before.hash r directory) after
-  whole_commit directory way a added = record { directory = directory; way = way; admitted = admitted_in directory way a; is_id = refl; adds = added }
+  whole_commit : (output : Output) (way : Way) → IsAdmitted settings r (view_of old) output way → Adds before.hash (written_objects r output) before.content after.content → AddsCommit settings r before (commit_id before.hash r output) after
+  whole_commit output way a added = record { output = output; way = way; admitted = admitted_in output way a; is_id = refl; adds = added }
 
   untouched : (e : CommitEditsError) → new ≡ old → Stepped e
   untouched e same =
@@ -84,28 +84,26 @@ module _ (settings : Settings) (r : CommitRequest) (old new : StoreState) (befor
       added : Adds before.hash b.grows.first before.content after.content
       added = adds b.grows.first (ap (λ (s : StoreState). s.content) b.grows.becomes.same)
 
-      go : (rest : List (Kind × List ℕ)) → written_objects old.hash r b.directory ≡ b.grows.first ++ rest → Stepped e
+      go : (rest : List (Kind × List ℕ)) → written_objects r b.output ≡ b.grows.first ++ rest → Stepped e
       go [] split =
-          let all : b.grows.first ≡ written_objects before.hash r b.directory = sym (append-nil b.grows.first) ∙ sym split ∙ ap (λ h. written_objects h r b.directory) same_hash in (
-            Some (commit_id before.hash r b.directory),
-            record { hash = hash; left = whole_commit b.directory b.way b.admitted (subst (λ l. Adds before.hash l before.content after.content) all added) },
+          let all : b.grows.first ≡ written_objects r b.output = sym (append-nil b.grows.first) ∙ sym split in (
+            Some (commit_id before.hash r b.output),
+            record { hash = hash; left = whole_commit b.output b.way b.admitted (subst (λ l. Adds before.hash l before.content after.content) all added) },
           )
       go (x ∷ rest) split =
-          let less = all_but_last (brought before.hash r b.directory) b.grows.first (kind.Commit, commit_text before.hash r b.directory) x rest (sym (ap (λ h. written_objects h r b.directory) same_hash) ∙ split) in (
+          let less = all_but_last (brought r b.output) b.grows.first (kind.Commit, commit_text r b.output) x rest split in (
             None,
             record {
               hash = hash;
-              left = inr (record { directory = b.directory; way = b.way; admitted = admitted_in b.directory b.way b.admitted; first = b.grows.first; rest = less.0; split = less.1; adds = added });
+              left = inr (record { output = b.output; way = b.way; admitted = admitted_in b.output b.way b.admitted; first = b.grows.first; rest = less.0; split = less.1; adds = added });
             },
           )
 
   torn : (e : CommitEditsError) → IsTornBy settings r old new → Stepped e
   torn e t =
-      let content : new.content ≡ option_map (with_objects old.hash (written_objects old.hash r t.directory)) old.content = ap (λ (s : StoreState). s.content) t.torn.same ∙ ap (λ (s : StoreState). s.content) t.becomes.same in
+      let content : new.content ≡ option_map (with_objects old.hash (written_objects r t.output)) old.content = ap (λ (s : StoreState). s.content) t.torn.same ∙ ap (λ (s : StoreState). s.content) t.becomes.same in
       let hash : new.hash ≡ old.hash = ap (λ (s : StoreState). s.hash) t.torn.same ∙ ap (λ (s : StoreState). s.hash) t.becomes.same in
-      let added : Adds before.hash (written_objects before.hash r t.directory) before.content after.content =
-      subst (λ h. Adds before.hash (written_objects h r t.directory) before.content after.content) same_hash (adds (written_objects old.hash r t.directory) content) in
-      (Some (commit_id before.hash r t.directory), record { hash = hash_after hash; left = whole_commit t.directory t.way t.admitted added })
+      (Some (commit_id before.hash r t.output), record { hash = hash_after hash; left = whole_commit t.output t.way t.admitted (adds (written_objects r t.output) content) })
 
   faulty : (fault : What) → LeavesFault settings r old new fault → Stepped (error.Store fault)
   faulty what.Write l = ⊎_elim (begun (error.Store what.Write)) (torn (error.Store what.Write)) l
@@ -133,7 +131,7 @@ module _ (settings : Settings) (r : CommitRequest) (old new : StoreState) (befor
 
   accepted : (id : ObjectId) → Commits settings r old id new → Accepts settings r before id after
   accepted id c =
-      let first = subst (λ (v : View). BothTold (λ s t. Accepts settings r s id t) (state_told v.hash v.content v.references) (state_told new.hash new.content new.references)) was (accepts_of settings r old new id c) in
+      let first = subst (λ (v : View). BothTold (λ s t. Accepts settings r s id t) (state_told v.hash v.content v.references) (state_told new.hash new.content new.references)) was (accepts_of laws settings r old new id c) in
       subst (λ (v : View). BothTold (λ s t. Accepts settings r s id t) (Some before) (state_told v.hash v.content v.references)) is first
 
   pub step_of : (answer : Result ObjectId CommitEditsError) → IfOk answer (λ id. Commits settings r old id new) → IfErr answer (Leaves settings r old new)

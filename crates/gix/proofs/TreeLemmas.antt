@@ -1,38 +1,32 @@
 -- The trees of a request, as they are checked.
-use Rattle.std.proofs.Common.{◌≡◌, ◌∙◌, sym, ap, refl, subst, List, [], ◌∷◌, ◌++◌, map, Bool, true, false, ◌||◌, Option, Some, None, IfSome, inl, inr, ◌⊎◌, Contains}
+use Rattle.std.proofs.Common.{◌≡◌, ◌∙◌, sym, ap, subst, refl, List, [], ◌∷◌, ◌++◌, map, Bool, true, false, ◌||◌, Option, Some, None, IfSome, inl, inr, ◌⊎◌}
 use Rattle.std.specs.List.{AllByRecursion}
 use Rattle.std.proofs.lemmas.List.{map-append}
 use Rattle.gx_hash.specs.declared.oid.ObjectId.{ObjectId}
-use Rattle.gx_object.specs.declared.tree.Entry.{Entry}
-use Rattle.gx_rules.specs.Component.{IsFirstViolated}
-use Rattle.gx_rules.specs.declared.component_rules.Protect.{Protect}
 use Rattle.gx_hash.specs.ObjectIds.{id_eq, has_id}
+use Rattle.gx_rules.specs.Component.{IsFirstViolated}
+use Rattle.gx_object.specs.declared.tree.Entry.{Entry}
 use Rattle.gx_store.specs.Content.{Content, IsStored, id_of}
 use Rattle.gx_store.specs.State.{StoreState}
 use Rattle.gx_store.specs.declared.error.What.TheVariants as what
-use Rattle.gx_edit.specs.PathList.{PathList, map_of}
-use Rattle.gx_edit.specs.PathMap.{PathMap, blobs_of}
-use Rattle.gx_edit.specs.CanonicalTree.{Directory, StandsFor, trees_of, entries_within}
 use Rattle.gx_edit.specs.CheckOutput.{IsNeeded, MayBeWritten, CheckCauses}
-use Rattle.gx_edit.specs.Entries.{is_link, IsSafe}
-use Rattle.gx_edit.specs.Output.{Output, IsOutputOf, PlanCauses, output_of}
+use Rattle.gx_edit.specs.Editor.{hash_of, view_of as directories_of}
+use Rattle.gx_edit.specs.EditorWriting.{AreSpelled, PlanViewCauses}
+use Rattle.gx_edit.specs.Entries.{is_link}
+use Rattle.gx_edit.specs.Output.{Output}
+use Rattle.gx_edit.specs.PathMap.{blobs_of}
+use Rattle.gx_edit.specs.Written.{IsOutputOfView}
 use Rattle.gx_edit.specs.declared.error.EditError.{EditError}
 use Rattle.gx_edit.specs.declared.error.EditError.TheVariants as edit_error
-use Rattle.gx_edit.proofs.DirectoryLemmas.{one_directory}
 use Rattle.gix.specs.declared.settings.Settings.{Settings}
 use Rattle.gix.specs.declared.edits.Edited.{Edited}
 use Rattle.gix.specs.declared.error.CommitEditsError.TheVariants as error
 use Rattle.gix.specs.CommitRequest.{CommitRequest}
 use Rattle.gix.specs.View.{view_of}
 use Rattle.gix.specs.Trees.{Makes, IsFound, brought}
-use Rattle.gix.specs.Causes.{HasZero}
 use Rattle.gix.specs.Lifting.{lifted, HasPlace}
 use Rattle.gix.specs.Stages.{StageCauses, IsEditedBy, AreTreesOf, blob_ids}
 use Rattle.gix.proofs.Told.{told_with}
-use Rattle.gix.proofs.ZeroLemmas.{zero_in}
-
-pub same_directory : {m : PathMap} (d e : Directory) → StandsFor d m → StandsFor e m → d ≡ e
-same_directory d e a b = one_directory d e a.canonical b.canonical (λ p. a.leaves p ∙ sym (b.leaves p))
 
 -- ---- what has to be stored already
 
@@ -44,109 +38,97 @@ has_id-append (x ∷ xs) ys id = ap (λ t. id_eq x id || t) (has_id-append xs ys
     grouped true b c = refl
     grouped false b c = refl
 
-module _ (r : CommitRequest) (s : StoreState) (given : List ObjectId) (directory : Directory) (output : Output) (own : output ≡ output_of s.hash directory) (ids : (id : ObjectId) → has_id given id ≡ has_id (blob_ids s.hash r.edits) id) where
-  among_new : (id : ObjectId) → has_id (map (id_of s.hash) (brought s.hash r directory)) id ≡ (has_id given id || has_id (map (id_of output.hash) output.trees) id)
+module _ (r : CommitRequest) (s : StoreState) (given : List ObjectId) (output : Output) (own : output.hash ≡ s.hash) (ids : (id : ObjectId) → has_id given id ≡ has_id (blob_ids s.hash r.edits) id) where
+  among_new : (id : ObjectId) → has_id (map (id_of s.hash) (brought r output)) id ≡ (has_id given id || has_id (map (id_of output.hash) output.trees) id)
   among_new id =
-      ap (λ l. has_id l id) (map-append (id_of s.hash) (blobs_of r.edits) (trees_of s.hash directory))
-      ∙ has_id-append (blob_ids s.hash r.edits) (map (id_of s.hash) (trees_of s.hash directory)) id
-      ∙ ap (λ t. t || has_id (map (id_of s.hash) (trees_of s.hash directory)) id) (sym (ids id))
-      ∙ ap (λ (o : Output). has_id given id || has_id (map (id_of o.hash) o.trees) id) (sym own)
+      ap (λ l. has_id l id) (map-append (id_of s.hash) (blobs_of r.edits) output.trees)
+      ∙ has_id-append (blob_ids s.hash r.edits) (map (id_of s.hash) output.trees) id
+      ∙ ap (λ t. t || has_id (map (id_of s.hash) output.trees) id) (sym (ids id))
+      ∙ ap (λ h. has_id given id || has_id (map (id_of h) output.trees) id) (sym own)
 
-  pub needed : (entry : Entry) → IsNeeded output given entry → has_id (map (id_of s.hash) (brought s.hash r directory)) entry.oid ≡ false
+  pub needed : (entry : Entry) → IsNeeded output given entry → has_id (map (id_of s.hash) (brought r output)) entry.oid ≡ false
   needed entry n = among_new entry.oid ∙ ap (λ t. t || has_id (map (id_of output.hash) output.trees) entry.oid) n.not_given ∙ n.no_tree
 
-  found : (entry : Entry) → (IsNeeded output given entry → IfSome s.content (λ content. IsStored content entry.oid)) → IsFound (view_of s) (brought s.hash r directory) entry
+  found : (entry : Entry) → (IsNeeded output given entry → IfSome s.content (λ content. IsStored content entry.oid)) → IsFound (view_of s) (brought r output) entry
   found entry h other = go (has_id given entry.oid) refl (has_id (map (id_of output.hash) output.trees) entry.oid) refl
     where
-      new : has_id (map (id_of s.hash) (brought s.hash r directory)) entry.oid ≡ true → IfSome s.content (λ content. IsStored content entry.oid ⊎ (has_id (map (id_of s.hash) (brought s.hash r directory)) entry.oid ≡ true))
+      new : has_id (map (id_of s.hash) (brought r output)) entry.oid ≡ true → IfSome s.content (λ content. IsStored content entry.oid ⊎ (has_id (map (id_of s.hash) (brought r output)) entry.oid ≡ true))
       new e = always s.content
         where
-          always : (told : Option Content) → IfSome told (λ content. IsStored content entry.oid ⊎ (has_id (map (id_of s.hash) (brought s.hash r directory)) entry.oid ≡ true))
+          always : (told : Option Content) → IfSome told (λ content. IsStored content entry.oid ⊎ (has_id (map (id_of s.hash) (brought r output)) entry.oid ≡ true))
           always None = tt
           always (Some content) = inr e
 
-      go : (a : Bool) → has_id given entry.oid ≡ a → (b : Bool) → has_id (map (id_of output.hash) output.trees) entry.oid ≡ b → IfSome s.content (λ content. IsStored content entry.oid ⊎ (has_id (map (id_of s.hash) (brought s.hash r directory)) entry.oid ≡ true))
+      go : (a : Bool) → has_id given entry.oid ≡ a → (b : Bool) → has_id (map (id_of output.hash) output.trees) entry.oid ≡ b → IfSome s.content (λ content. IsStored content entry.oid ⊎ (has_id (map (id_of s.hash) (brought r output)) entry.oid ≡ true))
       go true e b f = new (among_new entry.oid ∙ ap (λ t. t || has_id (map (id_of output.hash) output.trees) entry.oid) e)
       go false e true f = new (among_new entry.oid ∙ ap (λ t. t || has_id (map (id_of output.hash) output.trees) entry.oid) e ∙ f)
       go false e false f = told_with s.content (λ content at. inl at) (h (record { no_submodule = other; not_given = e; no_tree = f }))
 
-  pub all_found : (entries : List Entry) → AllByRecursion (λ entry. IsNeeded output given entry → IfSome s.content (λ content. IsStored content entry.oid)) entries → AllByRecursion (IsFound (view_of s) (brought s.hash r directory)) entries
+  pub all_found : (entries : List Entry) → AllByRecursion (λ entry. IsNeeded output given entry → IfSome s.content (λ content. IsStored content entry.oid)) entries → AllByRecursion (IsFound (view_of s) (brought r output)) entries
   all_found [] h = tt
   all_found (entry ∷ entries) h = (found entry h.0, all_found entries h.1)
 
 -- ---- the trees pass, or are refused
 
 module _ (settings : Settings) (r : CommitRequest) (s : StoreState) (edited : Edited) (by : IsEditedBy r s edited) where
-  -- the map has no trees
-  pub plan_refused : (e : EditError) → PlanCauses edited.map e → StageCauses settings r s (lifted e)
-  plan_refused (edit_error.WriteObject field) c = subst (λ f. StageCauses settings r s (error.WriteObject f)) (sym c.0) zero
-    where
-      zero : HasZero r (view_of s)
-      zero = let z = zero_in edited.map c.1 in record { new_map = map_of edited.map; edits = by.edits; path = z.path; stands = z.stands; name = z.name; among = z.among; zero = z.zero }
+  makes : (output : Output) → IsOutputOfView (hash_of edited.editor) (directories_of edited.editor) output → Makes r (view_of s) output
+  makes output w = record { end = directories_of edited.editor; edits = by.edits; written = subst (λ h. IsOutputOfView h (directories_of edited.editor) output) by.hash w }
+
+  -- there are no trees to write
+  pub plan_refused : (e : EditError) → PlanViewCauses (hash_of edited.editor) (directories_of edited.editor) e → StageCauses settings r s (lifted e)
+  plan_refused (edit_error.WriteObject field) c = subst (λ f. StageCauses settings r s (error.WriteObject f)) (sym c.0) (record { output = c.1; makes = makes c.1 c.2; some = c.3 })
   plan_refused (edit_error.InvalidFilename filename k id source) c = absurd c
   plan_refused (edit_error.MissingObject filename k id) c = absurd c
   plan_refused (edit_error.Store fault) c = absurd c
   plan_refused edit_error.NoMemory c = tt
   plan_refused edit_error.EmptyPathComponent c = absurd c
+  plan_refused edit_error.IsTree c = absurd c
   plan_refused (edit_error.FindExistingObject id) c = absurd c
   plan_refused (edit_error.ObjectKind id actual) c = absurd c
   plan_refused (edit_error.Decode id) c = absurd c
 
-  module _ (output : Output) (w : IsOutputOf s.hash (map_of edited.map) output) (given : List ObjectId) (ids : (id : ObjectId) → has_id given id ≡ has_id edited.blobs.items id) where
+  module _ (output : Output) (w : IsOutputOfView (hash_of edited.editor) (directories_of edited.editor) output) (given : List ObjectId) (ids : (id : ObjectId) → has_id given id ≡ has_id edited.blobs.items id) where
+    own : output.hash ≡ s.hash
+    own = w.same_hash ∙ by.hash
+
     known : (id : ObjectId) → has_id given id ≡ has_id (blob_ids s.hash r.edits) id
     known id = ids id ∙ ap (λ l. has_id l id) by.blobs
 
-    makes : Makes r (view_of s) w.directory
-    makes = record { new_map = map_of edited.map; edits = by.edits; stands = w.stands }
-
-    entries_are : output.entries ≡ entries_within s.hash w.directory
-    entries_are = ap (λ (o : Output). o.entries) w.is
-
-    within : (entry : Entry) → Contains output.entries entry → Contains (entries_within s.hash w.directory) entry
-    within entry among = subst (λ l. Contains l entry) entries_are among
-
-    pub trees_found : MayBeWritten output settings.protect given s → AreTreesOf settings r s output
-    trees_found m = record {
-      directory = w.directory;
-      may = record {
-        makes = makes;
-        safe = subst (AllByRecursion (IsSafe (Some settings.protect))) entries_are m.safe;
-        found = subst (AllByRecursion (IsFound (view_of s) (brought s.hash r w.directory))) entries_are (all_found r s given w.directory output w.is known output.entries m.stored);
-      };
-      are = w.is;
+    pub trees_found : AreSpelled output → MayBeWritten output settings.protect given s → AreTreesOf settings r s output
+    trees_found spelled m = record {
+      may = record { makes = makes output w; spelled = spelled; safe = m.safe; found = all_found r s given output own known output.entries m.stored };
+      hash = own;
     }
 
     pub trees_refused : (e : EditError) → CheckCauses output settings.protect given s e → StageCauses settings r s (lifted e)
     trees_refused (edit_error.WriteObject field) c = absurd c
     trees_refused (edit_error.InvalidFilename filename k id source) c = record {
-      directory = w.directory;
-      makes = makes;
-      entry = c.entry;
-      within = within c.entry c.among;
-      holds = (c.is.0, subst (λ n. IsFirstViolated n (is_link c.entry) settings.protect source) (sym c.is.0.named) c.is.1);
+      output = output;
+      makes = makes output w;
+      some = record { entry = c.entry; among = c.among; is = (c.is.0, subst (λ n. IsFirstViolated n (is_link c.entry) settings.protect source) (sym c.is.0.named) c.is.1) };
     }
     trees_refused (edit_error.MissingObject filename k id) c = record {
-      directory = w.directory;
-      makes = makes;
-      entry = c.entry;
-      within = within c.entry c.among;
-      holds = (
-        c.is.0,
-        record {
-          no_submodule = c.is.1.no_submodule;
-          not_brought = needed r s given w.directory output w.is known c.entry c.is.1;
-          not_stored = told_with s.content (λ content none. λ at. none (subst (IsStored content) (sym c.is.0.is_id) at)) c.is.2;
-        },
-      );
+      output = output;
+      makes = makes output w;
+      some = record {
+        entry = c.entry;
+        among = c.among;
+        is = (
+          c.is.0,
+          record {
+            no_submodule = c.is.1.no_submodule;
+            not_brought = needed r s given output own known c.entry c.is.1;
+            not_stored = told_with s.content (λ content none. λ at. none (subst (IsStored content) (sym c.is.0.is_id) at)) c.is.2;
+          },
+        );
+      };
     }
     trees_refused (edit_error.Store (what.Object id)) c = (
       c.0,
       inr (record {
-        directory = w.directory;
-        makes = makes;
-        entry = c.1.entry;
-        within = within c.1.entry c.1.among;
-        holds = record { no_submodule = c.1.is.1.no_submodule; not_brought = needed r s given w.directory output w.is known c.1.entry c.1.is.1; is_id = c.1.is.0 };
+        output = output;
+        makes = makes output w;
+        some = record { entry = c.1.entry; among = c.1.among; is = record { no_submodule = c.1.is.1.no_submodule; not_brought = needed r s given output own known c.1.entry c.1.is.1; is_id = c.1.is.0 } };
       }),
     )
     trees_refused (edit_error.Store (what.Name name)) c = absurd c
@@ -155,30 +137,7 @@ module _ (settings : Settings) (r : CommitRequest) (s : StoreState) (edited : Ed
     trees_refused (edit_error.Store what.Write) c = absurd c
     trees_refused edit_error.NoMemory c = tt
     trees_refused edit_error.EmptyPathComponent c = absurd c
+    trees_refused edit_error.IsTree c = absurd c
     trees_refused (edit_error.FindExistingObject id) c = absurd c
     trees_refused (edit_error.ObjectKind id actual) c = absurd c
     trees_refused (edit_error.Decode id) c = absurd c
-
--- ---- neither refusal tells of an empty component
-
-pub plan_has_place : (paths : PathList) (e : EditError) → PlanCauses paths e → HasPlace e
-plan_has_place paths edit_error.EmptyPathComponent c = c
-plan_has_place paths (edit_error.FindExistingObject id) c = tt
-plan_has_place paths (edit_error.ObjectKind id actual) c = tt
-plan_has_place paths (edit_error.Decode id) c = tt
-plan_has_place paths (edit_error.InvalidFilename filename k id source) c = tt
-plan_has_place paths (edit_error.MissingObject filename k id) c = tt
-plan_has_place paths (edit_error.WriteObject field) c = tt
-plan_has_place paths (edit_error.Store fault) c = tt
-plan_has_place paths edit_error.NoMemory c = tt
-
-pub check_has_place : (output : Output) (protect : Protect) (given : List ObjectId) (s : StoreState) (e : EditError) → CheckCauses output protect given s e → HasPlace e
-check_has_place output protect given s edit_error.EmptyPathComponent c = c
-check_has_place output protect given s (edit_error.FindExistingObject id) c = tt
-check_has_place output protect given s (edit_error.ObjectKind id actual) c = tt
-check_has_place output protect given s (edit_error.Decode id) c = tt
-check_has_place output protect given s (edit_error.InvalidFilename filename k id source) c = tt
-check_has_place output protect given s (edit_error.MissingObject filename k id) c = tt
-check_has_place output protect given s (edit_error.WriteObject field) c = tt
-check_has_place output protect given s (edit_error.Store fault) c = tt
-check_has_place output protect given s edit_error.NoMemory c = tt

@@ -10,8 +10,7 @@ use Rattle.gx_object.specs.declared.kind.Kind.TheVariants as kind
 use Rattle.gx_store.specs.State.{StoreState, Becomes, stored, all_stored}
 use Rattle.gx_store.specs.declared.error.StoreError.{StoreError}
 use Rattle.gx_edit.specs.PathMap.{blobs_in, blobs_of}
-use Rattle.gx_edit.specs.CanonicalTree.{Directory, trees_of}
-use Rattle.gx_edit.specs.Output.{Output, output_of}
+use Rattle.gx_edit.specs.Output.{Output}
 use Rattle.gx_edit.specs.declared.path_edit.PathEdit.{PathEdit}
 use Rattle.gix.specs.CommitRequest.{CommitRequest}
 use Rattle.gix.specs.Trees.{brought}
@@ -22,19 +21,9 @@ use Rattle.gix.proofs.EditLemmas.{blob_ids-cons}
 
 -- ---- trees
 
--- the trees of a directory, where an output has them
-pub trees_begun : (s t : StoreState) (directory : Directory) (o : Output) (n : ℕ) → o ≡ output_of s.hash directory → Becomes (all_stored (take n o.trees) s) t → Grows (trees_of s.hash directory) s t
-trees_begun s t directory o n own b =
-    let are : o.trees ≡ trees_of s.hash directory = ap (λ (x : Output). x.trees) own in
-    record {
-      first = take n (trees_of s.hash directory);
-      rest = drop n (trees_of s.hash directory);
-      split = sym (take-append-drop n (trees_of s.hash directory));
-      becomes = subst (λ l. Becomes (all_stored (take n l) s) t) are b;
-    }
-
-pub trees_written : (s t : StoreState) (directory : Directory) (o : Output) → o ≡ output_of s.hash directory → Becomes (all_stored o.trees s) t → Becomes (all_stored (trees_of s.hash directory) s) t
-trees_written s t directory o own b = subst (λ (x : Output). Becomes (all_stored x.trees s) t) own b
+-- the first of the trees
+pub trees_begun : (s t : StoreState) (o : Output) (n : ℕ) → Becomes (all_stored (take n o.trees) s) t → Grows o.trees s t
+trees_begun s t o n b = record { first = take n o.trees; rest = drop n o.trees; split = sym (take-append-drop n o.trees); becomes = b }
 
 -- ---- blobs
 
@@ -52,58 +41,58 @@ blobs_more edits i edit s t u lt there before after = subst (λ l. Becomes (all_
 
 -- ---- all objects of a commit
 
-module _ (r : CommitRequest) (s : StoreState) (directory : Directory) where
+module _ (r : CommitRequest) (s : StoreState) (output : Output) where
   abbrev commit : Kind × List ℕ
-  commit = (kind.Commit, commit_text s.hash r directory)
+  commit = (kind.Commit, commit_text r output)
 
-  grows_by_blobs : (n : ℕ) (t u : StoreState) → Becomes (all_stored (blobs_of (take n r.edits)) s) t → Becomes t u → Grows (written_objects s.hash r directory) s u
+  grows_by_blobs : (n : ℕ) (t u : StoreState) → Becomes (all_stored (blobs_of (take n r.edits)) s) t → Becomes t u → Grows (written_objects r output) s u
   grows_by_blobs n t u b c = record {
     first = blobs_of (take n r.edits);
-    rest = blobs_of (drop n r.edits) ++ (trees_of s.hash directory ++ commit ∷ []);
+    rest = blobs_of (drop n r.edits) ++ (output.trees ++ commit ∷ []);
     split =
-        append_assoc (blobs_of r.edits) (trees_of s.hash directory) (commit ∷ [])
-        ∙ ap (λ l. l ++ (trees_of s.hash directory ++ commit ∷ [])) (ap blobs_of (sym (take-append-drop n r.edits)) ∙ blobs_of-append (take n r.edits) (drop n r.edits))
-        ∙ append_assoc (blobs_of (take n r.edits)) (blobs_of (drop n r.edits)) (trees_of s.hash directory ++ commit ∷ []);
+        append_assoc (blobs_of r.edits) output.trees (commit ∷ [])
+        ∙ ap (λ l. l ++ (output.trees ++ commit ∷ [])) (ap blobs_of (sym (take-append-drop n r.edits)) ∙ blobs_of-append (take n r.edits) (drop n r.edits))
+        ∙ append_assoc (blobs_of (take n r.edits)) (blobs_of (drop n r.edits)) (output.trees ++ commit ∷ []);
     becomes = becomes_then (all_stored (blobs_of (take n r.edits)) s) t u b c;
   }
 
-  pub blobs_grow : (n : ℕ) (t : StoreState) → Becomes (all_stored (blobs_of (take n r.edits)) s) t → Grows (written_objects s.hash r directory) s t
+  pub blobs_grow : (n : ℕ) (t : StoreState) → Becomes (all_stored (blobs_of (take n r.edits)) s) t → Grows (written_objects r output) s t
   blobs_grow n t b = grows_by_blobs n t t b (becomes_itself t)
 
-  pub trees_grow : (t u : StoreState) → Becomes (all_stored (blobs_of r.edits) s) t → Grows (trees_of s.hash directory) t u → Grows (written_objects s.hash r directory) s u
+  pub trees_grow : (t u : StoreState) → Becomes (all_stored (blobs_of r.edits) s) t → Grows output.trees t u → Grows (written_objects r output) s u
   trees_grow t u b g = record {
     first = blobs_of r.edits ++ g.first;
     rest = g.rest ++ commit ∷ [];
     split =
-        append_assoc (blobs_of r.edits) (trees_of s.hash directory) (commit ∷ [])
+        append_assoc (blobs_of r.edits) output.trees (commit ∷ [])
         ∙ ap (λ l. blobs_of r.edits ++ (l ++ commit ∷ [])) g.split
         ∙ ap (λ l. blobs_of r.edits ++ l) (append_assoc g.first g.rest (commit ∷ []))
         ∙ sym (append_assoc (blobs_of r.edits) g.first (g.rest ++ commit ∷ []));
     becomes = stores_more (blobs_of r.edits) g.first s t u b g.becomes;
   }
 
-  pub brought_stored : (t u : StoreState) → Becomes (all_stored (blobs_of r.edits) s) t → Becomes (all_stored (trees_of s.hash directory) t) u → Becomes (all_stored (brought s.hash r directory) s) u
-  brought_stored t u b c = stores_more (blobs_of r.edits) (trees_of s.hash directory) s t u b c
+  pub brought_stored : (t u : StoreState) → Becomes (all_stored (blobs_of r.edits) s) t → Becomes (all_stored output.trees t) u → Becomes (all_stored (brought r output) s) u
+  brought_stored t u b c = stores_more (blobs_of r.edits) output.trees s t u b c
 
-  pub brought_grow : (t u : StoreState) → Becomes (all_stored (brought s.hash r directory) s) t → Becomes t u → Grows (written_objects s.hash r directory) s u
+  pub brought_grow : (t u : StoreState) → Becomes (all_stored (brought r output) s) t → Becomes t u → Grows (written_objects r output) s u
   brought_grow t u b c = record {
-    first = brought s.hash r directory;
+    first = brought r output;
     rest = commit ∷ [];
     split = refl;
-    becomes = becomes_then (all_stored (brought s.hash r directory) s) t u b c;
+    becomes = becomes_then (all_stored (brought r output) s) t u b c;
   }
 
-  pub all_written : (t u : StoreState) (bytes : List ℕ) → bytes ≡ commit_text s.hash r directory → Becomes (all_stored (brought s.hash r directory) s) t → Becomes (all_stored ((kind.Commit, bytes) ∷ []) t) u → Becomes (all_stored (written_objects s.hash r directory) s) u
-  all_written t u bytes is b c = subst (λ x. Becomes (all_stored (brought s.hash r directory ++ (kind.Commit, x) ∷ []) s) u) is (stores_more (brought s.hash r directory) ((kind.Commit, bytes) ∷ []) s t u b c)
+  pub all_written : (t u : StoreState) (bytes : List ℕ) → bytes ≡ commit_text r output → Becomes (all_stored (brought r output) s) t → Becomes (all_stored ((kind.Commit, bytes) ∷ []) t) u → Becomes (all_stored (written_objects r output) s) u
+  all_written t u bytes is b c = subst (λ x. Becomes (all_stored (brought r output ++ (kind.Commit, x) ∷ []) s) u) is (stores_more (brought r output) ((kind.Commit, bytes) ∷ []) s t u b c)
 
-  pub commit_written : (result : Result (Unit {0}) StoreError) (t u : StoreState) (id : ObjectId) (bytes : List ℕ) → bytes ≡ commit_text s.hash r directory → id ≡ commit_id s.hash r directory → Becomes (all_stored (brought s.hash r directory) s) t
-      → OnOk result (Becomes (stored id (kind.Commit, bytes) t) u) → OnOk result (Becomes (all_stored (written_objects s.hash r directory) s) u)
+  pub commit_written : (result : Result (Unit {0}) StoreError) (t u : StoreState) (id : ObjectId) (bytes : List ℕ) → bytes ≡ commit_text r output → id ≡ commit_id s.hash r output → Becomes (all_stored (brought r output) s) t
+      → OnOk result (Becomes (stored id (kind.Commit, bytes) t) u) → OnOk result (Becomes (all_stored (written_objects r output) s) u)
   commit_written (Err e) t u id bytes is is_id b h = tt
   commit_written (Ok x) t u id bytes is is_id b h =
       let kept : t.hash ≡ s.hash = ap (λ (v : StoreState). v.hash) b.same in
       let own : id ≡ object_id t.hash (kind_name kind.Commit) bytes = is_id ∙ ap (object_id s.hash (kind_name kind.Commit)) (sym is) ∙ ap (λ k. object_id k (kind_name kind.Commit) bytes) (sym kept) in
       all_written t u bytes is b (subst (λ i. Becomes (stored i (kind.Commit, bytes) t) u) own h)
 
-  pub commit_begun : (result : Result (Unit {0}) StoreError) (t u : StoreState) → Becomes (all_stored (brought s.hash r directory) s) t → OnErr result (Becomes t u) → OnErr result (Grows (written_objects s.hash r directory) s u)
+  pub commit_begun : (result : Result (Unit {0}) StoreError) (t u : StoreState) → Becomes (all_stored (brought r output) s) t → OnErr result (Becomes t u) → OnErr result (Grows (written_objects r output) s u)
   commit_begun (Ok x) t u b h = tt
   commit_begun (Err e) t u b h = brought_grow t u b h

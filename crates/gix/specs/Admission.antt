@@ -8,8 +8,8 @@ use Rattle.gx_object.specs.Mode.{kind_of_mode}
 use Rattle.gx_store.specs.Content.{Content, IsStored}
 use Rattle.gx_edit.specs.Path.{Path}
 use Rattle.gx_edit.specs.PathMap.{PathMap}
-use Rattle.gx_edit.specs.CanonicalTree.{Directory}
 use Rattle.gx_edit.specs.Entries.{is_link_kind}
+use Rattle.gx_edit.specs.Output.{Output}
 use Rattle.gx_edit.specs.declared.leaf.Leaf.{Leaf}
 use Rattle.gix.specs.declared.settings.Settings.{Settings}
 use Rattle.gix.specs.CommitRequest.{CommitRequest}
@@ -22,31 +22,38 @@ abbrev pub AreWritable : CommitRequest → Type 0
 AreWritable r = (is_writable_identity r.author ≡ true) × (is_writable_identity r.committer ≡ true)
 
 -- The objects of a request may be written: its trees, and its commit with both identities.
-pub record MayStore (settings : Settings) (r : CommitRequest) (view : View) (directory : Directory) : Type 0 where
-  pub trees : MayWrite settings r view directory
+pub record MayStore (settings : Settings) (r : CommitRequest) (view : View) (output : Output) : Type 0 where
+  pub trees : MayWrite settings r view output
   pub identities : AreWritable r
 
 -- The commit may be made: its objects may be written, and its reference may be moved to it.
-pub record IsAdmitted (settings : Settings) (r : CommitRequest) (view : View) (directory : Directory) (way : Way) : Type 0 where
-  pub objects : MayStore settings r view directory
+pub record IsAdmitted (settings : Settings) (r : CommitRequest) (view : View) (output : Output)
+    (way : Way) : Type 0 where
+  pub objects : MayStore settings r view output
   pub reference : MayMove r view.references way
 
 -- ---- the same, said of paths
 
--- Each component of the path may be checked out, the last as a link where it is one, and holds no zero byte. (git-config(1), "core.protectNTFS")
+-- Each component of the path may be checked out, the last as a link where it is one, and holds no zero byte.
+-- (git-config(1), "core.protectNTFS")
 abbrev pub AreComponents : Protect → Bool → Path → Type 0
 AreComponents protect is_link [] = Unit {0}
 AreComponents protect is_link (name ∷ []) = IsComponent name is_link protect × (Contains name 0 → ⊥)
-AreComponents protect is_link (name ∷ next ∷ path) = IsComponent name false protect × (Contains name 0 → ⊥) × AreComponents protect is_link (next ∷ path)
+AreComponents protect is_link (name ∷ next ∷ path) = IsComponent name false protect × (Contains name 0 → ⊥)
+    × AreComponents protect is_link (next ∷ path)
 
+-- each path of the map is fit so
 abbrev pub HasSafePaths : Protect → PathMap → Type 0
-HasSafePaths protect m = (p : Path) (leaf : Leaf) → m p ≡ Some leaf → AreComponents protect (is_link_kind (kind_of_mode leaf.mode.value)) p
+HasSafePaths protect m = (p : Path) (leaf : Leaf) → m p ≡ Some leaf
+    → AreComponents protect (is_link_kind (kind_of_mode leaf.mode.value)) p
 
 -- what the leaves name is stored, but for submodules
 abbrev pub HasStoredLeaves : Content → PathMap → Type 0
-HasStoredLeaves content m = (p : Path) (leaf : Leaf) → m p ≡ Some leaf → kind_of_mode leaf.mode.value ≢ entry_kind.Commit → IsStored content leaf.id
+HasStoredLeaves content m = (p : Path) (leaf : Leaf) → m p ≡ Some leaf
+    → kind_of_mode leaf.mode.value ≢ entry_kind.Commit → IsStored content leaf.id
 
--- A valid request: it has no parent, or its first parent's tree has a path map, whose leaves are stored; its edits make of that a map whose names may all be checked out; both identities can be written; and its reference may be moved.
+-- A valid request: it has no parent, or its first parent's tree has a path map, whose leaves are stored; its edits make
+-- of that a map whose names may all be checked out; both identities can be written; and its reference may be moved.
 pub record IsValidCommit (settings : Settings) (r : CommitRequest) (state : State) : Type 0 where
   pub new_map : PathMap
   pub edits : Edits r (whole state) new_map

@@ -1,5 +1,5 @@
 -- Why a commit of edits is refused.
-use Rattle.std.specs.Prelude.{◌≡◌, ◌≢◌, ◌⊎◌, ℕ, true, false, List, [], ◌∷◌, ◌++◌, map, codes, Option, Some, None, IsTrue, IsSome, IfSome, Contains}
+use Rattle.std.specs.Prelude.{◌≡◌, ◌≢◌, ◌⊎◌, ℕ, true, false, List, [], ◌∷◌, ◌++◌, map, codes, Option, Some, None, IsTrue, IsSome, IfSome}
 use Rattle.std.specs.FinMap.{get}
 use Rattle.gx_hash.specs.declared.kind.HashKind.{HashKind}
 use Rattle.gx_hash.specs.declared.oid.ObjectId.{ObjectId}
@@ -13,8 +13,10 @@ use Rattle.gx_object.specs.declared.tree.EntryKind.TheVariants as entry_kind
 use Rattle.gx_object.specs.CommitSpelling.{CommitText, SpellsCommit}
 use Rattle.gx_object.specs.Identity.{are_writable}
 use Rattle.gx_object.specs.Mode.{kind_of_mode}
+use Rattle.gx_object.specs.Tree.{is_writable_filename}
+use Rattle.gx_object.specs.TreeSpelling.{SpellsTree}
 use Rattle.gx_store.specs.Conflict.{Conflict}
-use Rattle.gx_store.specs.Content.{Content, IsStored, lookup, id_of}
+use Rattle.gx_store.specs.Content.{IsStored, lookup, id_of}
 use Rattle.gx_store.specs.Faults.{Rose}
 use Rattle.gx_store.specs.State.{StoreState}
 use Rattle.gx_store.specs.declared.error.StoreError.{StoreError}
@@ -23,12 +25,10 @@ use Rattle.gx_store.specs.declared.error.What.{What}
 use Rattle.gx_store.specs.declared.error.What.TheVariants as what
 use Rattle.gx_store.specs.declared.target.Target.{Target}
 use Rattle.gx_store.specs.declared.target.Target.TheVariants as target
-use Rattle.gx_edit.specs.Path.{Path}
-use Rattle.gx_edit.specs.PathMap.{PathMap, path_of}
-use Rattle.gx_edit.specs.CanonicalTree.{Directory, entries_within}
 use Rattle.gx_hash.specs.ObjectIds.{has_id}
+use Rattle.gx_edit.specs.PathMap.{path_of}
 use Rattle.gx_edit.specs.Entries.{IsEntry, is_link}
-use Rattle.gx_edit.specs.ReadMapCauses.{IsAtOrBelow, HasNoMap}
+use Rattle.gx_edit.specs.Output.{Output, SomeEntry}
 use Rattle.gx_edit.specs.declared.path_edit.PathEdit.{PathEdit}
 use Rattle.gx_refs.specs.Chain.{EndsIn, Cycles, IsTooDeep, IsOnChain}
 use Rattle.gix.specs.declared.settings.Settings.{Settings}
@@ -36,46 +36,48 @@ use Rattle.gix.specs.declared.error.CommitEditsError.{CommitEditsError}
 use Rattle.gix.specs.declared.error.CommitEditsError.TheVariants.{FindExistingObject, ObjectKind, Decode, EmptyPathComponent, InvalidFilename, MissingObject, WriteObject, Cycle, DepthLimitExceeded, MustExist, MustNotExist, ReferenceOutOfDate, NameConflict, Store, NoMemory}
 use Rattle.gix.specs.CommitRequest.{CommitRequest}
 use Rattle.gix.specs.View.{View, view_of}
-use Rattle.gix.specs.Base.{HasTree, IsBase, IsTreeIn, OfFirst}
-use Rattle.gix.specs.Trees.{has_gap, have_names, Edits, Makes, brought, MayWrite}
+use Rattle.gix.specs.Base.{HasTree, IsBaseTree, OfFirst}
+use Rattle.gix.specs.Trees.{has_gap, have_names, IsLoaded, Makes, brought, MayWrite}
 use Rattle.gix.specs.Admission.{MayStore}
 
--- ---- the base
+-- ---- what is read
 
--- An object that is read for the base has to be of a kind: the first parent a commit, the trees at and below its tree trees.
-abbrev pub IsReadAs : HashKind → Content → ObjectId → ObjectId → Kind → Type 0
-IsReadAs hash content parent id kind.Commit = id ≡ parent
-IsReadAs hash content parent id kind.Tree = IsTreeIn hash content parent id
-IsReadAs hash content parent id kind.Blob = ⊥
-IsReadAs hash content parent id kind.Tag = ⊥
+-- An object that is read has to be of a kind: the first parent a commit; its tree, and each directory that an edit
+-- loads, a tree.
+abbrev pub IsReadAs : CommitRequest → View → ObjectId → Kind → Type 0
+IsReadAs r view id kind.Commit = OfFirst r.parents (λ parent. id ≡ parent)
+IsReadAs r view id kind.Tree =
+    OfFirst r.parents (λ parent. IfSome view.content (λ content. HasTree view.hash content parent id))
+    ⊎ IsLoaded r view id
+IsReadAs r view id kind.Blob = ⊥
+IsReadAs r view id kind.Tag = ⊥
 
 -- it is not stored
-pub record IsAbsent (hash : HashKind) (content : Content) (parent id : ObjectId) : Type 0 where
+pub record IsAbsent (r : CommitRequest) (view : View) (id : ObjectId) : Type 0 where
   pub wanted : Kind
-  pub read : IsReadAs hash content parent id wanted
-  pub absent : lookup content id ≡ None
+  pub read : IsReadAs r view id wanted
+  pub absent : IfSome view.content (λ content. lookup content id ≡ None)
 
 -- it is of another kind
-pub record IsOther (hash : HashKind) (content : Content) (parent id : ObjectId) (actual : Kind) : Type 0 where
+pub record IsOther (r : CommitRequest) (view : View) (id : ObjectId) (actual : Kind) : Type 0 where
   pub wanted : Kind
-  pub read : IsReadAs hash content parent id wanted
-  pub other : actual ≢ wanted
-  pub bytes : List ℕ
-  pub stored : lookup content id ≡ Some (actual, bytes)
+  pub read : IsReadAs r view id wanted
+  pub other : IfSome view.content (λ content. (actual ≢ wanted) × (bytes : List ℕ)
+      × (lookup content id ≡ Some (actual, bytes)))
 
--- the first parent's bytes spell no commit
-pub record IsBadCommit (hash : HashKind) (content : Content) (parent id : ObjectId) : Type 0 where
-  pub is_parent : id ≡ parent
-  pub bytes : List ℕ
-  pub stored : lookup content id ≡ Some (kind.Commit, bytes)
-  pub spells_none : (text : CommitText) → ¬ SpellsCommit hash bytes text
+-- the bytes spell no object of the kind
+abbrev pub SpellsNone : HashKind → Kind → List ℕ → Type 0
+SpellsNone hash kind.Commit bytes = (text : CommitText) → ¬ SpellsCommit hash bytes text
+SpellsNone hash kind.Tree bytes = (entries : List Entry) → ¬ SpellsTree hash bytes entries
+SpellsNone hash kind.Blob bytes = ⊥
+SpellsNone hash kind.Tag bytes = ⊥
 
--- a tree at or below that of the first parent is none of a path map
-pub record IsBadTree (hash : HashKind) (content : Content) (parent id : ObjectId) : Type 0 where
-  pub tree : ObjectId
-  pub has_tree : HasTree hash content parent tree
-  pub within : IsAtOrBelow hash content tree id
-  pub no_map : HasNoMap hash content tree id
+-- it is of the kind, and its bytes spell none
+pub record IsBad (r : CommitRequest) (view : View) (id : ObjectId) : Type 0 where
+  pub wanted : Kind
+  pub read : IsReadAs r view id wanted
+  pub bad : IfSome view.content (λ content. (bytes : List ℕ) × (lookup content id ≡ Some (wanted, bytes))
+      × SpellsNone view.hash wanted bytes)
 
 -- ---- the edits and their trees
 
@@ -90,80 +92,88 @@ pub record IsFirstGap (edits : List PathEdit) (path : List ℕ) : Type 0 where
   pub is_path : path ≡ path_of edit
 
 -- an entry of the trees that the request makes has the property
-pub record OfEntry (r : CommitRequest) (view : View) (P : Directory → Entry → Type 0) : Type 0 where
-  pub directory : Directory
-  pub makes : Makes r view directory
-  pub entry : Entry
-  pub within : Contains (entries_within view.hash directory) entry
-  pub holds : P directory entry
+pub record OfEntry (r : CommitRequest) (view : View) (P : Output → Entry → Type 0) : Type 0 where
+  pub output : Output
+  pub makes : Makes r view output
+  pub some : SomeEntry output (P output)
 
 -- the entry is no submodule, and what it names is neither stored nor brought
-pub record IsMissing (r : CommitRequest) (view : View) (directory : Directory) (entry : Entry) : Type 0 where
+pub record IsMissing (r : CommitRequest) (view : View) (output : Output) (entry : Entry) : Type 0 where
   pub no_submodule : kind_of_mode entry.mode.value ≢ entry_kind.Commit
-  pub not_brought : has_id (map (id_of view.hash) (brought view.hash r directory)) entry.oid ≡ false
+  pub not_brought : has_id (map (id_of view.hash) (brought r output)) entry.oid ≡ false
   pub not_stored : IfSome view.content (λ content. ¬ IsStored content entry.oid)
 
--- What the entry names is looked for among the stored objects: it is no submodule, whose commit stands in another repository, and no object that the request brings. (gitsubmodules(7))
-pub record IsSought (r : CommitRequest) (view : View) (directory : Directory) (entry : Entry) (id : ObjectId) : Type 0 where
+-- What the entry names is looked for among the stored objects: it is no submodule, whose commit stands in another
+-- repository, and no object that the request brings. (gitsubmodules(7))
+pub record IsSought (r : CommitRequest) (view : View) (output : Output) (entry : Entry) (id : ObjectId) : Type 0 where
   pub no_submodule : kind_of_mode entry.mode.value ≢ entry_kind.Commit
-  pub not_brought : has_id (map (id_of view.hash) (brought view.hash r directory)) entry.oid ≡ false
+  pub not_brought : has_id (map (id_of view.hash) (brought r output)) entry.oid ≡ false
   pub is_id : entry.oid ≡ id
 
--- a path of the map that the request makes holds a zero byte
-pub record HasZero (r : CommitRequest) (view : View) : Type 0 where
-  pub new_map : PathMap
-  pub edits : Edits r view new_map
-  pub path : Path
-  pub stands : IsSome (new_map path)
-  pub name : List ℕ
-  pub among : Contains path name
-  pub zero : Contains name 0
-
--- A field that can't be written is a name in a tree, or, where the trees may be written, a part of an identity.
+-- A field that can't be written is a name in a tree, or, where the trees may be written, a part of an identity. (Git,
+-- "Git Internals - Git Objects", "Tree Objects")
 abbrev pub IsUnwritable : Settings → CommitRequest → View → Field → Type 0
-IsUnwritable settings r view FileName = HasZero r view
-IsUnwritable settings r view field = (directory : Directory) × MayWrite settings r view directory × (are_writable r.author r.committer field ≡ false)
+IsUnwritable settings r view FileName = OfEntry r view (λ output entry. is_writable_filename entry.filename ≡ false)
+IsUnwritable settings r view field = (output : Output) × MayWrite settings r view output
+    × (are_writable r.author r.committer field ≡ false)
 
 -- ---- the reference
 
 -- all of the request's objects may be written
 abbrev pub IsStorable : Settings → CommitRequest → View → Type 0
-IsStorable settings r view = (directory : Directory) × MayStore settings r view directory
+IsStorable settings r view = (output : Output) × MayStore settings r view output
 
 -- the reference's way ends at the name, which names this
 abbrev pub EndsAt : CommitRequest → View → List ℕ → Option Target → Type 0
-EndsAt r view name found = IfSome view.references (λ refs. (names : List (List ℕ)) × EndsIn refs.targets r.reference names name found)
+EndsAt r view name found = IfSome view.references (λ refs. (names : List (List ℕ))
+    × EndsIn refs.targets r.reference names name found)
 
 -- ---- causes
 
--- Why the machine refuses a commit: what the request holds, and what is stored, where that is told. Causes of a later stage come only where those before are passed: the base, the edits, the trees, the identities, the reference. A fault of the store and lack of memory are none of its refusals.
+-- Why the machine refuses a commit: what the request holds, and what is stored, where that is told. Causes of a later
+-- stage come only where those before are passed: the base, the edits, the trees, the identities, the reference. A fault
+-- of the store and lack of memory are none of its refusals.
 abbrev pub Cause : Settings → CommitRequest → View → CommitEditsError → Type 0
-Cause settings r view (FindExistingObject id) = OfFirst r.parents (λ parent. IfSome view.content (λ content. IsAbsent view.hash content parent id))
-Cause settings r view (ObjectKind id actual) = OfFirst r.parents (λ parent. IfSome view.content (λ content. IsOther view.hash content parent id actual))
-Cause settings r view (Decode id) = OfFirst r.parents (λ parent. IfSome view.content (λ content. IsBadCommit view.hash content parent id ⊎ IsBadTree view.hash content parent id))
-Cause settings r view (EmptyPathComponent path) = ((base : PathMap) × IsBase view r.parents base) × IsFirstGap r.edits path
-Cause settings r view (InvalidFilename filename kind id source) = OfEntry r view (λ directory entry. IsEntry entry filename kind id × IsFirstViolated filename (is_link entry) settings.protect source)
-Cause settings r view (MissingObject filename kind id) = OfEntry r view (λ directory entry. IsEntry entry filename kind id × IsMissing r view directory entry)
+Cause settings r view (FindExistingObject id) = IsAbsent r view id
+Cause settings r view (ObjectKind id actual) = IsOther r view id actual
+Cause settings r view (Decode id) = IsBad r view id
+Cause settings r view (EmptyPathComponent path) = ((entries : List Entry) × IsBaseTree view r.parents entries)
+    × IsFirstGap r.edits path
+Cause settings r view (InvalidFilename filename kind id source) =
+    OfEntry r view (λ output entry. IsEntry entry filename kind id
+    × IsFirstViolated filename (is_link entry) settings.protect source)
+Cause settings r view (MissingObject filename kind id) =
+    OfEntry r view (λ output entry. IsEntry entry filename kind id × IsMissing r view output entry)
 Cause settings r view (WriteObject field) = IsUnwritable settings r view field
-Cause settings r view (Cycle name) = IsStorable settings r view × (name ≡ r.reference) × IfSome view.references (λ refs. Cycles refs.targets r.reference)
-Cause settings r view (DepthLimitExceeded name) = IsStorable settings r view × (name ≡ r.reference) × IfSome view.references (λ refs. IsTooDeep refs.targets r.reference)
-Cause settings r view (MustExist name) = IsStorable settings r view × (r.reference ≡ codes "HEAD") × (r.parents ≢ []) × EndsAt r view name None
-Cause settings r view (MustNotExist name actual) = IsStorable settings r view × (r.parents ≡ []) × EndsAt r view name (Some actual)
-Cause settings r view (ReferenceOutOfDate name expected actual) = IsStorable settings r view × OfFirst r.parents (λ parent. expected ≡ target.Object parent) × (actual ≢ expected) × EndsAt r view name (Some actual)
-Cause settings r view (NameConflict name other) = IsStorable settings r view × Conflict name other × EndsAt r view name None × IfSome view.references (λ refs. IsSome (get refs.targets other))
+Cause settings r view (Cycle name) = IsStorable settings r view × (name ≡ r.reference)
+    × IfSome view.references (λ refs. Cycles refs.targets r.reference)
+Cause settings r view (DepthLimitExceeded name) = IsStorable settings r view × (name ≡ r.reference)
+    × IfSome view.references (λ refs. IsTooDeep refs.targets r.reference)
+Cause settings r view (MustExist name) = IsStorable settings r view × (r.reference ≡ codes "HEAD") × (r.parents ≢ [])
+    × EndsAt r view name None
+Cause settings r view (MustNotExist name actual) = IsStorable settings r view × (r.parents ≡ [])
+    × EndsAt r view name (Some actual)
+Cause settings r view (ReferenceOutOfDate name expected actual) = IsStorable settings r view
+    × OfFirst r.parents (λ parent. expected ≡ target.Object parent) × (actual ≢ expected)
+    × EndsAt r view name (Some actual)
+Cause settings r view (NameConflict name other) = IsStorable settings r view × Conflict name other
+    × EndsAt r view name None × IfSome view.references (λ refs. IsSome (get refs.targets other))
 Cause settings r view (Store fault) = ⊥
 Cause settings r view NoMemory = ⊥
 
 -- ---- faults of the store
 
--- what is read of the objects: the first parent, the trees of the base, and what is sought at an entry of the new trees
+-- what is read of the objects, and what is sought at an entry of the new trees
 abbrev pub IsObjectRead : CommitRequest → View → ObjectId → Type 0
-IsObjectRead r view id = OfFirst r.parents (λ parent. (id ≡ parent) ⊎ IfSome view.content (λ content. IsTreeIn view.hash content parent id)) ⊎ OfEntry r view (λ directory entry. IsSought r view directory entry id)
+IsObjectRead r view id = ((wanted : Kind) × IsReadAs r view id wanted)
+    ⊎ OfEntry r view (λ output entry. IsSought r view output entry id)
 
 -- A store's fault names what could not be read, or comes of a write that failed.
 abbrev pub HasFault : Settings → CommitRequest → StoreState → StoreState → What → Type 0
-HasFault settings r old new (what.Object id) = IsTrue (old.unreadable (what.Object id)) × IsObjectRead r (view_of old) id
-HasFault settings r old new (what.Name name) = IsTrue (old.unreadable (what.Name name)) × IsStorable settings r (view_of old) × IfSome old.references (λ refs. IsOnChain refs.targets r.reference name)
+HasFault settings r old new (what.Object id) = IsTrue (old.unreadable (what.Object id))
+    × IsObjectRead r (view_of old) id
+HasFault settings r old new (what.Name name) = IsTrue (old.unreadable (what.Name name))
+    × IsStorable settings r (view_of old) × IfSome old.references (λ refs. IsOnChain refs.targets r.reference name)
 HasFault settings r old new what.Index = ⊥
 HasFault settings r old new what.Listing = IsTrue (old.unreadable what.Listing) × IsStorable settings r (view_of old)
 HasFault settings r old new what.Write = Rose old.faults new.faults

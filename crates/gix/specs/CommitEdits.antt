@@ -12,7 +12,7 @@ use Rattle.gx_store.specs.Change.{applied, AfterFault}
 use Rattle.gx_store.specs.declared.change.RefChange.{RefChange}
 use Rattle.gx_store.specs.declared.error.What.{What}
 use Rattle.gx_store.specs.declared.error.What.TheVariants as what
-use Rattle.gx_edit.specs.CanonicalTree.{Directory, root_of}
+use Rattle.gx_edit.specs.Output.{Output}
 use Rattle.gix.specs.declared.settings.Settings.{Settings}
 use Rattle.gix.specs.declared.error.CommitEditsError.{CommitEditsError}
 use Rattle.gix.specs.declared.error.CommitEditsError.TheVariants.{Store, NoMemory}
@@ -22,30 +22,34 @@ use Rattle.gix.specs.Trees.{brought}
 use Rattle.gix.specs.Reference.{Way, Moves}
 use Rattle.gix.specs.Admission.{IsAdmitted}
 
--- the bytes of the commit over a directory
-abbrev pub commit_text : HashKind → CommitRequest → Directory → List ℕ
-commit_text hash r directory = plain_commit_bytes (root_of hash directory) r.parents r.author r.committer r.message
+-- the bytes of the commit over the root of the trees
+abbrev pub commit_text : CommitRequest → Output → List ℕ
+commit_text r output = plain_commit_bytes output.root r.parents r.author r.committer r.message
 
-abbrev pub commit_id : HashKind → CommitRequest → Directory → ObjectId
-commit_id hash r directory = object_id hash (kind_name kind.Commit) (commit_text hash r directory)
+-- the id of that commit
+abbrev pub commit_id : HashKind → CommitRequest → Output → ObjectId
+commit_id hash r output = object_id hash (kind_name kind.Commit) (commit_text r output)
 
--- A commit brings the blobs of its edits, the trees of the edited map and itself, and nothing else.
-abbrev pub written_objects : HashKind → CommitRequest → Directory → List (Kind × List ℕ)
-written_objects hash r directory = brought hash r directory ++ (kind.Commit, commit_text hash r directory) ∷ []
+-- A commit brings the blobs of its edits, the trees of the directories that its edits go through, the root's always,
+-- and itself, and nothing else.
+abbrev pub written_objects : CommitRequest → Output → List (Kind × List ℕ)
+written_objects r output = brought r output ++ (kind.Commit, commit_text r output) ∷ []
 
 -- ---- what a call leaves
 
 -- The commit was made: its objects are stored, the end of its reference's way is moved, and nothing else is changed.
-pub record Commits (settings : Settings) (r : CommitRequest) (old : StoreState) (id : ObjectId) (new : StoreState) : Type 0 where
-  pub directory : Directory
+pub record Commits (settings : Settings) (r : CommitRequest) (old : StoreState) (id : ObjectId)
+    (new : StoreState) : Type 0 where
+  pub output : Output
   pub way : Way
-  pub admitted : IsAdmitted settings r (view_of old) directory way
-  pub is_id : id ≡ commit_id old.hash r directory
+  pub admitted : IsAdmitted settings r (view_of old) output way
+  pub is_id : id ≡ commit_id old.hash r output
   pub changes : List RefChange
   pub moves : Moves old.hash r old.references way id changes
-  pub becomes : Becomes (applied changes (all_stored (written_objects old.hash r directory) old)) new
+  pub becomes : Becomes (applied changes (all_stored (written_objects r output) old)) new
 
--- The first of the objects were stored, in the order in which each comes after all that it names, and nothing else is changed.
+-- The first of the objects were stored, in the order in which each comes after all that it names, and
+-- nothing else is changed.
 pub record Grows (objects : List (Kind × List ℕ)) (old new : StoreState) : Type 0 where
   pub first : List (Kind × List ℕ)
   pub rest : List (Kind × List ℕ)
@@ -54,20 +58,21 @@ pub record Grows (objects : List (Kind × List ℕ)) (old new : StoreState) : Ty
 
 -- A request that may be made has some first objects stored.
 pub record HasBegun (settings : Settings) (r : CommitRequest) (old new : StoreState) : Type 0 where
-  pub directory : Directory
+  pub output : Output
   pub way : Way
-  pub admitted : IsAdmitted settings r (view_of old) directory way
-  pub grows : Grows (written_objects old.hash r directory) old new
+  pub admitted : IsAdmitted settings r (view_of old) output way
+  pub grows : Grows (written_objects r output) old new
 
--- A request that may be made has all its objects stored, and a fault left each name on its reference's way, and each log there, old or new.
+-- A request that may be made has all its objects stored, and a fault left each name on its reference's way, and each
+-- log there, old or new.
 pub record IsTornBy (settings : Settings) (r : CommitRequest) (old new : StoreState) : Type 0 where
-  pub directory : Directory
+  pub output : Output
   pub way : Way
-  pub admitted : IsAdmitted settings r (view_of old) directory way
+  pub admitted : IsAdmitted settings r (view_of old) output way
   pub changes : List RefChange
-  pub moves : Moves old.hash r old.references way (commit_id old.hash r directory) changes
+  pub moves : Moves old.hash r old.references way (commit_id old.hash r output) changes
   pub stored : StoreState
-  pub becomes : Becomes (all_stored (written_objects old.hash r directory) old) stored
+  pub becomes : Becomes (all_stored (written_objects r output) old) stored
   pub torn : AfterFault changes stored new
 
 -- A fault of a read changes nothing; one of a write comes after some first objects, or tears the reference.

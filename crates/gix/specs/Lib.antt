@@ -4,6 +4,7 @@ pub mod Causes
 pub mod CommitEdits
 pub mod CommitRequest
 pub mod History
+pub mod LawsBelow
 pub mod Lifting
 pub mod Log
 pub mod Machine

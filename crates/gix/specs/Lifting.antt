@@ -6,14 +6,16 @@ use Rattle.gx_refs.specs.declared.error.RefError.TheVariants as ref_error
 use Rattle.gix.specs.declared.error.CommitEditsError.{CommitEditsError}
 use Rattle.gix.specs.declared.error.CommitEditsError.TheVariants.{FindExistingObject, ObjectKind, Decode, InvalidFilename, MissingObject, WriteObject, Cycle, DepthLimitExceeded, Store, NoMemory}
 
--- it tells of no empty component
+-- it tells of no empty component, and of no directory in place of a leaf
 abbrev pub HasPlace : EditError → Type 0
 HasPlace edit_error.EmptyPathComponent = ⊥
+HasPlace edit_error.IsTree = ⊥
 HasPlace refusal = Unit {0}
 
--- of all but an empty component
+-- of all but these two
 abbrev pub lifted : EditError → CommitEditsError
 lifted edit_error.EmptyPathComponent = NoMemory
+lifted edit_error.IsTree = NoMemory
 lifted (edit_error.FindExistingObject id) = FindExistingObject id
 lifted (edit_error.ObjectKind id actual) = ObjectKind id actual
 lifted (edit_error.Decode id) = Decode id
@@ -23,6 +25,7 @@ lifted (edit_error.WriteObject field) = WriteObject field
 lifted (edit_error.Store fault) = Store fault
 lifted edit_error.NoMemory = NoMemory
 
+-- how a chain is refused, as the refusal of a commit
 abbrev pub of_chain : RefError → CommitEditsError
 of_chain (ref_error.Cycle name) = Cycle name
 of_chain (ref_error.DepthLimitExceeded name) = DepthLimitExceeded name

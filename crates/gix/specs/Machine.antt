@@ -1,11 +1,13 @@
 -- The repository machine, where commits are concerned: which answer a request may get, and what the repository is then.
-use Rattle.std.specs.Prelude.{◌≡◌, Option, Some, None}
+use Rattle.std.specs.Prelude.{◌≡◌, Option, Some, None, Contains}
+use Rattle.std.specs.List.{AllByRecursion}
 use Rattle.gx_hash.specs.declared.kind.HashKind.{HashKind}
 use Rattle.gx_hash.specs.declared.oid.ObjectId.{ObjectId}
 use Rattle.gx_store.specs.Content.{Content, HoldsAll, Adds, AreApart}
 use Rattle.gx_store.specs.State.{RefState, StoreState}
 use Rattle.gx_edit.specs.PathMap.{PathMap, edited}
-use Rattle.gx_edit.specs.CanonicalTree.{Directory, Represents, root_of}
+use Rattle.gx_edit.specs.CanonicalTree.{Directory, StandsFor, Represents, root_of, trees_of}
+use Rattle.gx_edit.specs.Output.{Output}
 use Rattle.gix.specs.declared.settings.Settings.{Settings}
 use Rattle.gix.specs.declared.error.CommitEditsError.{CommitEditsError}
 use Rattle.gix.specs.declared.error.CommitEditsError.TheVariants.{Store, NoMemory}
@@ -17,15 +19,18 @@ use Rattle.gix.specs.Admission.{IsAdmitted}
 use Rattle.gix.specs.Causes.{Cause}
 use Rattle.gix.specs.CommitEdits.{commit_id, written_objects}
 
+-- the state of these parts, where both are told
 abbrev pub state_told : HashKind → Option Content → Option RefState → Option State
 state_told hash None references = None
 state_told hash (Some content) None = None
-state_told hash (Some content) (Some references) = Some (record { hash = hash; content = content; references = references })
+state_told hash (Some content) (Some references) =
+    Some (record { hash = hash; content = content; references = references })
 
 -- the state that a store tells, where it tells both its objects and its references
 abbrev pub state_of : StoreState → Option State
 state_of store = state_told store.hash store.content store.references
 
+-- two states are so related, or neither is told
 abbrev pub BothTold : (State → State → Type 0) → Option State → Option State → Type 0
 BothTold R None None = Unit {0}
 BothTold R None (Some new) = ⊥
@@ -36,22 +41,40 @@ BothTold R (Some old) (Some new) = R old new
 abbrev pub WhereTold : (State → State → Type 0) → StoreState → StoreState → Type 0
 WhereTold R old new = BothTold R (state_of old) (state_of new)
 
--- A commit is accepted: it may be made, and its id is that of the commit over the root of the directory that its edits make of its base. The content gains the blobs of its edits, the canonical trees of that directory and the commit, each where its id is absent, and nothing else. The end of its reference's way comes to name the commit, each log on the way gets a line where one is due, and no other reference or log is changed. Where no two different objects share an id, and none has the null id, all of these objects are stored, and so the tree represents what the edits make of the base. (git-commit-tree(1), git-update-ref(1), git-config(1) "core.logAllRefUpdates")
-pub record Accepts (settings : Settings) (r : CommitRequest) (old : State) (id : ObjectId) (new : State) : Type 0 where
+-- An output is that of a map: a canonical directory stands for the map, the output's root is that of the directory, and
+-- each tree of the output is one of the directory's.
+pub record IsWrittenOf (hash : HashKind) (output : Output) (m : PathMap) : Type 0 where
   pub directory : Directory
+  pub stands : StandsFor directory m
+  pub is_root : output.root ≡ root_of hash directory
+  pub trees : AllByRecursion (Contains (trees_of hash directory)) output.trees
+
+-- A commit is accepted: it may be made, and its id is that of the commit over the root of the trees that its edits make
+-- of its base. The content gains the blobs of its edits, those trees and the commit, each where its id is absent, and
+-- nothing else. The end of its reference's way comes to name the commit, each log on the way gets a line where one is
+-- due, and no other reference or log is changed. Where no two different objects share an id, and none has the null id,
+-- all of these objects are stored. Where the base has a path map, the trees are canonical ones of what the edits make
+-- of that map; and so, where no two objects share an id, the commit's tree represents it. (git-commit-tree(1),
+-- git-update-ref(1), git-config(1) "core.logAllRefUpdates")
+pub record Accepts (settings : Settings) (r : CommitRequest) (old : State) (id : ObjectId) (new : State) : Type 0 where
+  pub output : Output
   pub way : Way
-  pub admitted : IsAdmitted settings r (whole old) directory way
-  pub base : PathMap
-  pub is_base : IsBase (whole old) r.parents base
-  pub is_id : id ≡ commit_id old.hash r directory
+  pub admitted : IsAdmitted settings r (whole old) output way
+  pub is_id : id ≡ commit_id old.hash r output
   pub hash : new.hash ≡ old.hash
-  pub adds : Adds old.hash (written_objects old.hash r directory) old.content new.content
-  pub stored : AreApart old.hash old.content (written_objects old.hash r directory) → HoldsAll old.hash (written_objects old.hash r directory) new.content
-  pub represents : AreApart old.hash old.content (written_objects old.hash r directory) → Represents old.hash new.content (root_of old.hash directory) (edited old.hash base r.edits)
+  pub adds : Adds old.hash (written_objects r output) old.content new.content
+  pub stored : AreApart old.hash old.content (written_objects r output)
+      → HoldsAll old.hash (written_objects r output) new.content
+  pub written : (base : PathMap) → IsBase (whole old) r.parents base
+      → IsWrittenOf old.hash output (edited old.hash base r.edits)
+  pub represents : (base : PathMap) → IsBase (whole old) r.parents base
+      → AreApart old.hash old.content (written_objects r output)
+      → Represents old.hash new.content output.root (edited old.hash base r.edits)
   pub references : new.references ≡ moved_to old.hash r way id old.references
 
 -- A commit is refused: the cause of the refusal holds, and nothing is changed.
-pub record Refuses (settings : Settings) (r : CommitRequest) (old : State) (refusal : CommitEditsError) (new : State) : Type 0 where
+pub record Refuses (settings : Settings) (r : CommitRequest) (old : State) (refusal : CommitEditsError)
+    (new : State) : Type 0 where
   pub cause : Cause settings r (whole old) refusal
   pub same : new ≡ old
 

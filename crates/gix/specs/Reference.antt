@@ -16,7 +16,8 @@ use Rattle.gx_refs.specs.declared.log.WriteReflog.TheVariants.{Normal}
 use Rattle.gix.specs.CommitRequest.{CommitRequest}
 use Rattle.gix.specs.Log.{commit_log_message}
 
--- A commit without a parent makes its reference. One with a parent moves it from the first parent, or makes it, if another name than `HEAD` was given. (gix, "commit_as"; git-update-ref(1), "<old-oid>")
+-- A commit without a parent makes its reference. One with a parent moves it from the first parent, or makes it, if
+-- another name than `HEAD` was given. (gix, "commit_as"; git-update-ref(1), "<old-oid>")
 abbrev pub IsAllowed : List ℕ → List ObjectId → Option Target → Type 0
 IsAllowed name [] found = found ≡ None
 IsAllowed name (parent ∷ parents) None = name ≢ codes "HEAD"
@@ -28,7 +29,8 @@ pub record Way : Type 0 where
   pub end : List ℕ
   pub found : Option Target
 
--- The reference leads this way, its end names what it may, and where the end is absent no reference stands in its way. (git-symbolic-ref(1); Git, refs.c, "refs_verify_refname_available")
+-- The reference leads this way, its end names what it may, and where the end is absent no reference stands in its way.
+-- (git-symbolic-ref(1); Git, refs.c, "refs_verify_refname_available")
 pub record MayMove (r : CommitRequest) (told : Option RefState) (way : Way) : Type 0 where
   pub chain : IsChain r.reference way.names
   pub before : List (List ℕ)
@@ -40,13 +42,15 @@ pub record MayMove (r : CommitRequest) (told : Option RefState) (way : Way) : Ty
 
 -- the line that the commit writes to logs
 abbrev pub commit_line : HashKind → CommitRequest → Way → ObjectId → LogLine
-commit_line hash r way id = log_line (previous_id hash way.found) id r.committer (commit_log_message r.parents r.message)
+commit_line hash r way id = log_line (previous_id hash way.found) id r.committer
+    (commit_log_message r.parents r.message)
 
 -- the references after the commit: the end names it, and its line stands in each log on the way where one is due
 abbrev pub moved_to : HashKind → CommitRequest → Way → ObjectId → RefState → RefState
 moved_to hash r way id refs = moved Normal way.names way.end id (commit_line hash r way id) refs
 
 -- changes that make just that of the references; where these are not told, one change a name
-pub record Moves (hash : HashKind) (r : CommitRequest) (told : Option RefState) (way : Way) (id : ObjectId) (changes : List RefChange) : Type 0 where
+pub record Moves (hash : HashKind) (r : CommitRequest) (told : Option RefState) (way : Way) (id : ObjectId)
+    (changes : List RefChange) : Type 0 where
   pub along : MovesAlong Normal way.names id (commit_line hash r way id) changes
   pub moved : IfSome told (λ refs. refs_after changes refs ≡ moved_to hash r way id refs)

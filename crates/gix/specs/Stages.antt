@@ -1,8 +1,13 @@
 -- What the stages of a commit hand on, for the functions that go through them.
-use Rattle.std.specs.Prelude.{◌≡◌, ◌≢◌, ℕ, true, List, [], map, codes, Option, Some, None, IsSome, IfSome, false}
+use Rattle.std.specs.Prelude.{◌≡◌, ◌≢◌, ◌⊎◌, ℕ, true, false, List, [], map, codes, Option, Some, None, IsSome, IfSome}
+use Rattle.std.specs.List.{AllByRecursion}
 use Rattle.gx_hash.specs.declared.kind.HashKind.{HashKind}
 use Rattle.gx_hash.specs.declared.oid.ObjectId.{ObjectId}
+use Rattle.gx_object.specs.declared.kind.Kind.{Kind}
 use Rattle.gx_object.specs.declared.kind.Kind.TheVariants as kind
+use Rattle.gx_object.specs.declared.tree.Entry.{Entry}
+use Rattle.gx_object.specs.declared.tree.EntryKind.{EntryKind}
+use Rattle.gx_object.specs.TreeSpelling.{SpellsTree}
 use Rattle.std.specs.FinMap.{get}
 use Rattle.gx_object.specs.Identity.{are_writable}
 use Rattle.gx_store.specs.Conflict.{Conflict}
@@ -14,10 +19,15 @@ use Rattle.gx_store.specs.Kinds.{AreChangesOfKind, IsTargetOfKind}
 use Rattle.gx_store.specs.State.{StoreState, IsUnreadable}
 use Rattle.gx_store.specs.declared.error.What.TheVariants as what
 use Rattle.gx_edit.specs.Path.{components}
-use Rattle.gx_edit.specs.Output.{Output, output_of}
-use Rattle.gx_edit.specs.PathList.{map_of, has_empty_name}
-use Rattle.gx_edit.specs.PathMap.{PathMap, edited, blobs_of, path_of}
-use Rattle.gx_edit.specs.CanonicalTree.{Directory}
+use Rattle.gx_edit.specs.PathMap.{blobs_of, path_of}
+use Rattle.gx_edit.specs.PathList.{has_empty_name}
+use Rattle.gx_edit.specs.View as directories
+use Rattle.gx_edit.specs.View.{IsReadable, names_of, only}
+use Rattle.gx_edit.specs.Editor.{hash_of, view_of as directories_of, upserted_entry}
+use Rattle.gx_edit.specs.EditorCauses.{EditCauses, LoadsAll}
+use Rattle.gx_edit.specs.ViewOfEdits.{view_with, edited_view, PutsOwnId}
+use Rattle.gx_edit.specs.Output.{Output}
+use Rattle.gx_edit.specs.declared.editor.Editor.{Editor}
 use Rattle.gx_edit.specs.declared.error.EditError.{EditError}
 use Rattle.gx_edit.specs.declared.error.EditError.TheVariants as edit_error
 use Rattle.gx_edit.specs.declared.path_edit.PathEdit.{PathEdit}
@@ -29,75 +39,122 @@ use Rattle.gix.specs.declared.edits.Edited.{Edited}
 use Rattle.gix.specs.declared.plan.Plan.{Plan}
 use Rattle.gix.specs.declared.plan.NewObjects.{NewObjects}
 use Rattle.gix.specs.CommitRequest.{CommitRequest}
+use Rattle.gix.specs.Lifting.{lifted}
 use Rattle.gix.specs.View.{view_of}
-use Rattle.gix.specs.Base.{OfFirst}
-use Rattle.gix.specs.Trees.{Edits, MayWrite, have_names}
+use Rattle.gix.specs.Base.{IsBaseTree, OfFirst}
+use Rattle.gix.specs.Trees.{WhereLoaded, IsLoadedBy, EditsView, MayWrite, have_names}
 use Rattle.gix.specs.Reference.{Way, MayMove, Moves}
 use Rattle.gix.specs.Admission.{MayStore, IsAdmitted}
 use Rattle.gix.specs.CommitEdits.{commit_text, commit_id}
-use Rattle.gix.specs.Causes.{IsFirstGap, IsBadCommit, CommitEditsCauses}
+use Rattle.gix.specs.Causes.{SpellsNone, IsFirstGap, CommitEditsCauses}
 
 -- Why a stage refuses, which reads alone.
 abbrev pub StageCauses : Settings → CommitRequest → StoreState → CommitEditsError → Type 0
 StageCauses settings r state (Store what.Write) = ⊥
 StageCauses settings r state refusal = CommitEditsCauses settings r state state refusal
 
--- Why the tree of a commit is not known.
-abbrev pub ParentCauses : StoreState → ObjectId → CommitEditsError → Type 0
-ParentCauses state commit (FindExistingObject id) = (id ≡ commit) × IfSome state.content (λ content. lookup content id ≡ None)
-ParentCauses state commit (ObjectKind id actual) = (id ≡ commit) × (actual ≢ kind.Commit) × IfSome state.content (λ content. (bytes : List ℕ) × (lookup content id ≡ Some (actual, bytes)))
-ParentCauses state commit (Decode id) = IfSome state.content (λ content. IsBadCommit state.hash content commit id)
-ParentCauses state commit (Store fault) = IsUnreadable state (what.Object commit) fault
-ParentCauses state commit NoMemory = Unit {0}
-ParentCauses state commit refusal = ⊥
+-- why the object of a kind at an id is not known
+abbrev pub ReadCauses : StoreState → Kind → ObjectId → CommitEditsError → Type 0
+ReadCauses state wanted id (FindExistingObject named) = (named ≡ id)
+    × IfSome state.content (λ content. lookup content id ≡ None)
+ReadCauses state wanted id (ObjectKind named actual) = (named ≡ id)
+    × IfSome state.content (λ content. (actual ≢ wanted) × (bytes : List ℕ)
+    × (lookup content id ≡ Some (actual, bytes)))
+ReadCauses state wanted id (Decode named) = (named ≡ id) × IfSome state.content (λ content.
+    (bytes : List ℕ) × (lookup content id ≡ Some (wanted, bytes)) × SpellsNone state.hash wanted bytes)
+ReadCauses state wanted id (Store fault) = IsUnreadable state (what.Object id) fault
+ReadCauses state wanted id NoMemory = Unit {0}
+ReadCauses state wanted id refusal = ⊥
+
+-- a tree with these entries is stored under the id, where that is told
+abbrev pub IsStoredTree : StoreState → ObjectId → List Entry → Type 0
+IsStoredTree state id entries =
+    IfSome state.content (λ content. (bytes : List ℕ) × (lookup content id ≡ Some (kind.Tree, bytes))
+    × SpellsTree state.hash bytes entries)
+
+-- an editor of the base
+pub record IsBaseEditor (r : CommitRequest) (state : StoreState) (editor : Editor) : Type 0 where
+  pub hash : hash_of editor ≡ state.hash
+  pub entries : List Entry
+  pub is_base : IsBaseTree (view_of state) r.parents entries
+  pub fresh : directories_of editor ≡ only (names_of entries)
 
 -- the ids of the blobs of edits
 abbrev pub blob_ids : HashKind → List PathEdit → List ObjectId
 blob_ids hash edits = map (id_of hash) (blobs_of edits)
 
--- the edits are made on a map, and their blobs' ids kept
-pub record IsEdited (hash : HashKind) (base : PathMap) (edits : List PathEdit) (result : Edited) : Type 0 where
+-- ---- edits
+
+-- an entry is put at a path, which has no empty component, and the trees that this loads can be read
+pub record IsPutAt (state : StoreState) (old : directories.View) (path : List ℕ) (kind : EntryKind) (id : ObjectId)
+    (new : directories.View) : Type 0 where
+  pub named : has_empty_name (components path) ≡ false
+  pub loads : LoadsAll state old (components path)
+  pub view : WhereLoaded (view_of state) (λ load. new ≡ upserted_entry state.hash load old (components path) kind id)
+
+-- One edit is made of the directories. Its id is not null, and the trees that it loads can be read.
+pub record IsMadeBy (state : StoreState) (old : directories.View) (edit : PathEdit)
+    (new : directories.View) : Type 0 where
+  pub own : PutsOwnId state.hash edit
+  pub loads : LoadsAll state old (components (path_of edit))
+  pub view : WhereLoaded (view_of state) (λ load. new ≡ view_with state.hash load old edit)
+
+-- why an edit at a path is not made
+abbrev pub EditRefusedAt : StoreState → directories.View → List ℕ → EditError → Type 0
+EditRefusedAt state old path edit_error.NoMemory = Unit {0}
+EditRefusedAt state old path refusal = EditCauses state old (components path) refusal
+
+-- the same of an edit, at its path
+abbrev pub EditRefused : StoreState → directories.View → PathEdit → EditError → Type 0
+EditRefused state old edit refusal = EditRefusedAt state old (path_of edit) refusal
+
+-- A refusal of an edit is handed on; an empty component is told by the edit's path, for which there may be no memory.
+abbrev pub IsToldAs : PathEdit → EditError → CommitEditsError → Type 0
+IsToldAs edit edit_error.EmptyPathComponent told = (told ≡ EmptyPathComponent (path_of edit)) ⊎ (told ≡ NoMemory)
+IsToldAs edit refusal told = told ≡ lifted refusal
+
+-- the edits are made of the directories, and their blobs' ids kept
+pub record IsEdited (state : StoreState) (start : directories.View) (edits : List PathEdit)
+    (result : Edited) : Type 0 where
+  pub hash : hash_of result.editor ≡ state.hash
   pub named : have_names edits ≡ true
-  pub new_map : map_of result.map ≡ edited hash base edits
-  pub blobs : result.blobs.items ≡ blob_ids hash edits
+  pub own : AllByRecursion (PutsOwnId state.hash) edits
+  pub read : (id : ObjectId) → IsLoadedBy (view_of state) start edits id
+      → IfSome state.content (λ content. IsReadable state.hash content id)
+  pub is_end : WhereLoaded (view_of state) (λ load. directories_of result.editor
+      ≡ edited_view state.hash load start edits)
+  pub blobs : result.blobs.items ≡ blob_ids state.hash edits
 
 -- why edits are not made
-abbrev pub EditsCauses : List PathEdit → CommitEditsError → Type 0
-EditsCauses edits (EmptyPathComponent path) = IsFirstGap edits path
-EditsCauses edits NoMemory = Unit {0}
-EditsCauses edits refusal = ⊥
+abbrev pub EditsCauses : StoreState → directories.View → List PathEdit → CommitEditsError → Type 0
+EditsCauses state start edits (EmptyPathComponent path) = IsFirstGap edits path
+EditsCauses state start edits NoMemory = Unit {0}
+EditsCauses state start edits refusal = (id : ObjectId) × IsLoadedBy (view_of state) start edits id
+    × ReadCauses state kind.Tree id refusal
 
--- an edit of the path is refused for an empty component only where it has one
-abbrev pub IsGapIn : List ℕ → EditError → Type 0
-IsGapIn path edit_error.EmptyPathComponent = has_empty_name (components path) ≡ true
-IsGapIn path refusal = Unit {0}
-
-abbrev pub IsGapOf : PathEdit → EditError → Type 0
-IsGapOf edit refusal = IsGapIn (path_of edit) refusal
-
--- The objects of a request whose directory this is: the ids of its blobs, its trees, and its commit with its id.
-pub record AreObjects (hash : HashKind) (r : CommitRequest) (directory : Directory) (objects : NewObjects) : Type 0 where
+-- The objects of a request: the ids of its blobs, its trees, and its commit with its id.
+pub record AreObjects (hash : HashKind) (r : CommitRequest) (objects : NewObjects) : Type 0 where
   pub blobs : objects.blobs.items ≡ blob_ids hash r.edits
-  pub trees : objects.trees ≡ output_of hash directory
-  pub commit : objects.commit ≡ commit_text hash r directory
-  pub is_id : objects.id ≡ commit_id hash r directory
+  pub trees : objects.trees.hash ≡ hash
+  pub commit : objects.commit ≡ commit_text r objects.trees
+  pub is_id : objects.id ≡ commit_id hash r objects.trees
 
 -- objects that may be written
-pub record AreStorable (settings : Settings) (r : CommitRequest) (state : StoreState) (objects : NewObjects) : Type 0 where
-  pub directory : Directory
-  pub may : MayStore settings r (view_of state) directory
-  pub are : AreObjects state.hash r directory objects
+pub record AreStorable (settings : Settings) (r : CommitRequest) (state : StoreState)
+    (objects : NewObjects) : Type 0 where
+  pub may : MayStore settings r (view_of state) objects.trees
+  pub are : AreObjects state.hash r objects
 
--- the map of a request, with the ids of its blobs
+-- the directories as a request leaves them, with the ids of its blobs
 pub record IsEditedBy (r : CommitRequest) (state : StoreState) (result : Edited) : Type 0 where
-  pub edits : Edits r (view_of state) (map_of result.map)
+  pub hash : hash_of result.editor ≡ state.hash
+  pub edits : EditsView r (view_of state) (directories_of result.editor)
   pub blobs : result.blobs.items ≡ blob_ids state.hash r.edits
 
--- the trees of a directory, which may be written
+-- the trees of a request, which may be written
 pub record AreTreesOf (settings : Settings) (r : CommitRequest) (state : StoreState) (trees : Output) : Type 0 where
-  pub directory : Directory
-  pub may : MayWrite settings r (view_of state) directory
-  pub are : trees ≡ output_of state.hash directory
+  pub may : MayWrite settings r (view_of state) trees
+  pub hash : trees.hash ≡ state.hash
 
 -- why an identity is refused
 abbrev pub IdentityCauses : CommitRequest → CommitEditsError → Type 0
@@ -114,13 +171,15 @@ NameCauses r end refusal = ⊥
 abbrev pub EndCauses : CommitRequest → List ℕ → Option Target → CommitEditsError → Type 0
 EndCauses r end found (MustExist name) = (name ≡ end) × (r.reference ≡ codes "HEAD") × (r.parents ≢ []) × (found ≡ None)
 EndCauses r end found (MustNotExist name actual) = (name ≡ end) × (r.parents ≡ []) × (found ≡ Some actual)
-EndCauses r end found (ReferenceOutOfDate name expected actual) = (name ≡ end) × OfFirst r.parents (λ parent. expected ≡ target.Object parent) × (actual ≢ expected) × (found ≡ Some actual)
+EndCauses r end found (ReferenceOutOfDate name expected actual) = (name ≡ end)
+    × OfFirst r.parents (λ parent. expected ≡ target.Object parent) × (actual ≢ expected) × (found ≡ Some actual)
 EndCauses r end found NoMemory = Unit {0}
 EndCauses r end found refusal = ⊥
 
 -- why an absent end can't be made
 abbrev pub FreeCauses : StoreState → List ℕ → Option Target → CommitEditsError → Type 0
-FreeCauses state end found (NameConflict name other) = (name ≡ end) × (found ≡ None) × Conflict end other × IfSome state.references (λ refs. IsSome (get refs.targets other))
+FreeCauses state end found (NameConflict name other) = (name ≡ end) × (found ≡ None) × Conflict end other
+    × IfSome state.references (λ refs. IsSome (get refs.targets other))
 FreeCauses state end found (Store fault) = IsUnreadable state what.Listing fault
 FreeCauses state end found NoMemory = Unit {0}
 FreeCauses state end found refusal = ⊥
@@ -133,10 +192,9 @@ pub record IsMovable (r : CommitRequest) (state : StoreState) (chain : Chain) : 
 
 -- What is to be written: the objects of a request that may be made, and the changes of its references.
 pub record IsPlan (settings : Settings) (r : CommitRequest) (state : StoreState) (plan : Plan) : Type 0 where
-  pub directory : Directory
   pub way : Way
-  pub admitted : IsAdmitted settings r (view_of state) directory way
-  pub objects : AreObjects state.hash r directory plan.objects
+  pub admitted : IsAdmitted settings r (view_of state) plan.objects.trees way
+  pub objects : AreObjects state.hash r plan.objects
   pub moves : Moves state.hash r state.references way plan.objects.id plan.changes.items
   pub names : HaveDistinctNames plan.changes.items
   pub kinds : AreChangesOfKind state.hash plan.changes.items

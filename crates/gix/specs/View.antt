@@ -10,6 +10,7 @@ pub record View : Type 0 where
   pub content : Option Content
   pub references : Option RefState
 
+-- what a store shows, whose state this is
 abbrev pub view_of : StoreState → View
 view_of store = record { hash = store.hash; content = store.content; references = store.references }
 

@@ -8,7 +8,7 @@ ghost use Rattle.gix.specs.Causes.{CommitEditsCauses};
 use crate::plan::plan_commit;
 use crate::request::Request;
 use crate::write::write_new;
-use crate::{CommitEditsError, Repository, Settings};
+use crate::{CommitEditsError, Repository, Settings, laws};
 use gx_edit::PathEdit;
 use gx_hash::ObjectId;
 use gx_object::Signature;
@@ -28,7 +28,8 @@ impl<S: Store> Repository<S> {
     ghost use Rattle.gix.specs.Repository.{store_of, settings_of};
 
     /// Makes a commit of the first parent's tree, or of the empty one, after the edits in their order, and lets the end
-    /// of the reference's chain name it.
+    /// of the reference's chain name it. Of the tree its root is read, and each directory that an edit's path runs
+    /// through; these alone are written anew.
     ///
     /// Objects are stored before the reference is moved, each after all that it names. Where the store tells what it
     /// holds, an answer that is no fault and no lack of memory is one that the repository machine may give. A
@@ -36,9 +37,10 @@ impl<S: Store> Repository<S> {
     ///
     /// # Errors
     /// Stage by stage, and before anything is written: `FindExistingObject`, `ObjectKind` and `Decode` for the first
-    /// parent and its trees; `EmptyPathComponent` for an edit; `WriteObject`, `InvalidFilename` and `MissingObject` for
-    /// the new trees; `WriteObject` for an identity; `Cycle`, `DepthLimitExceeded`, `MustExist`, `MustNotExist`,
-    /// `ReferenceOutOfDate` and `NameConflict` for the reference. `Store` and `NoMemory` may come at any time.
+    /// parent and its tree; the same for a directory on the way to an edit's path, and `EmptyPathComponent` for the
+    /// path; `WriteObject`, `InvalidFilename` and `MissingObject` for the new trees; `WriteObject` for an identity;
+    /// `Cycle`, `DepthLimitExceeded`, `MustExist`, `MustNotExist`, `ReferenceOutOfDate` and `NameConflict` for the
+    /// reference. `Store` and `NoMemory` may come at any time.
     pub fn commit_edits(
         &mut self,
         alloc: Global,
@@ -51,15 +53,20 @@ impl<S: Store> Repository<S> {
     ) -> Result<ObjectId, CommitEditsError>
         requires { HaveModuleIds edits.now }
         ensures ok { let r = request_of committer.now author.now reference.now message.now parents.now edits.now in
-            IfOk result (λ id. Commits (settings_of self.old) r (S.state (store_of self.old)) id (S.state (store_of self.new))) }
+            IfOk result (λ id. Commits (settings_of self.old) r (S.state (store_of self.old)) id
+            (S.state (store_of self.new))) }
         ensures leaves { let r = request_of committer.now author.now reference.now message.now parents.now edits.now in
             IfErr result (Leaves (settings_of self.old) r (S.state (store_of self.old)) (S.state (store_of self.new))) }
         ensures causes { let r = request_of committer.now author.now reference.now message.now parents.now edits.now in
-            IfErr result (CommitEditsCauses (settings_of self.old) r (S.state (store_of self.old)) (S.state (store_of self.new))) }
+            IfErr result (CommitEditsCauses (settings_of self.old) r (S.state (store_of self.old))
+            (S.state (store_of self.new))) }
         ensures accepts { let r = request_of committer.now author.now reference.now message.now parents.now edits.now in
-            IfOk result (λ id. WhereTold (λ old new. Accepts (settings_of self.old) r old id new) (S.state (store_of self.old)) (S.state (store_of self.new))) }
+            IfOk result (λ id. WhereTold (λ old new. Accepts (settings_of self.old) r old id new)
+            (S.state (store_of self.old)) (S.state (store_of self.new))) }
         ensures refuses { let r = request_of committer.now author.now reference.now message.now parents.now edits.now in
-            IfErr result (λ e. IsRefusal e → WhereTold (λ old new. Refuses (settings_of self.old) r old e new) (S.state (store_of self.old)) (S.state (store_of self.new))) }
+            IfErr result (λ e. IsRefusal e
+            → WhereTold (λ old new. Refuses (settings_of self.old) r old e new) (S.state (store_of self.old))
+            (S.state (store_of self.new))) }
         ensures settings { settings_of self.new ≡ settings_of self.old }
     {
         let request = Request {
@@ -70,6 +77,7 @@ impl<S: Store> Repository<S> {
             parents,
             edits,
         };
+        laws::commit_is_accepted();
         commit_request(alloc, &mut self.store, self.settings, &request)
     }
 }
@@ -84,7 +92,8 @@ fn commit_request<S: Store>(
     requires { HaveModuleIds (asked request.now).edits }
     ensures ok { IfOk result (λ id. Commits settings (asked request.now) (S.state store.old) id (S.state store.new)) }
     ensures leaves { IfErr result (Leaves settings (asked request.now) (S.state store.old) (S.state store.new)) }
-    ensures causes { IfErr result (CommitEditsCauses settings (asked request.now) (S.state store.old) (S.state store.new)) }
+    ensures causes { IfErr result
+        (CommitEditsCauses settings (asked request.now) (S.state store.old) (S.state store.new)) }
 {
     let plan = plan_commit(alloc, store, settings, request)?;
     write_new(alloc, store, request, &plan.objects)?;

@@ -19,7 +19,7 @@ pub enum CommitEditsError {
     FindExistingObject {
         id: ObjectId,
     },
-    /// The first parent should have been a commit, or an object of its tree a tree.
+    /// The first parent should have been a commit, or its tree, or a directory on the way to an edit's path, a tree.
     #[error("the object {id:?} is a {actual:?}")]
     ObjectKind {
         id: ObjectId,
@@ -148,13 +148,14 @@ impl From<RefError> for CommitEditsError {
     }
 }
 
-/// A refusal of `gx_edit`, which tells of no empty component: that one wants its path.
+/// A refusal of `gx_edit`, which tells of no empty component, since that one wants its path, and of no directory that
+/// was to be removed as a leaf.
 pub(crate) fn lifted(refusal: EditError) -> CommitEditsError
     requires { HasPlace refusal }
     ensures { result ≡ lifted refusal }
 {
     match refusal {
-        EditError::EmptyPathComponent => unreachable!(),
+        EditError::EmptyPathComponent | EditError::IsTree => unreachable!(),
         EditError::FindExistingObject { id } => CommitEditsError::FindExistingObject { id },
         EditError::ObjectKind { id, actual } => CommitEditsError::ObjectKind { id, actual },
         EditError::Decode { id } => CommitEditsError::Decode { id },

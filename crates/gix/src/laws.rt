@@ -4,7 +4,7 @@ ghost use Rattle.std.specs.Prelude.{◌≡◌, List, ◌∷◌, Option, Some, Re
 ghost use Rattle.gx_hash.specs.HashKind.{kind_of};
 ghost use Rattle.gx_hash.specs.declared.oid.ObjectId.{ObjectId};
 ghost use Rattle.gx_store.specs.State.{StoreState};
-ghost use Rattle.gx_edit.specs.CanonicalTree.{Directory};
+ghost use Rattle.gx_edit.specs.Output.{Output};
 ghost use Rattle.gix.specs.declared.settings.Settings.{Settings};
 ghost use Rattle.gix.specs.declared.error.CommitEditsError.{CommitEditsError};
 ghost use Rattle.gix.specs.declared.error.CommitEditsError.TheVariants.{NoMemory as no_memory};
@@ -16,44 +16,106 @@ ghost use Rattle.gix.specs.Trees.{Makes};
 ghost use Rattle.gix.specs.Reference.{Way};
 ghost use Rattle.gix.specs.Admission.{IsAdmitted, IsValidCommit};
 ghost use Rattle.gix.specs.Causes.{Cause, CommitEditsCauses, IsFaultless};
+ghost use Rattle.gix.specs.Machine.{WhereTold, Accepts};
+ghost use Rattle.gix.specs.LawsBelow.{LawsBelow};
 ghost use Rattle.gix.specs.History.{Call, CallStep, History, IsEmpty, IsLine, IsWholeId, line_map};
 
+use gx_edit::view_laws;
 use gx_hash::ObjectId;
+
+/// The laws of the crates below that those here rest on.
+fn laws_below()
+    ensures { LawsBelow }
+{
+    view_laws::load_exists();
+    view_laws::empty_view_stands();
+    view_laws::read_view_stands();
+    view_laws::edited_view_stands();
+    view_laws::loaded_trees_have_maps();
+    view_laws::view_is_written_once();
+    view_laws::written_entries_stand();
+    view_laws::represented_map_is_plain();
+    view_laws::edited_map_is_plain();
+    view_laws::spelled_view_has_a_directory();
+    view_laws::written_root_is_the_map();
+    view_laws::stored_output_represents();
+    view_laws::written_view_has_the_map();
+    gx_edit::laws::map_is_unique();
+    gx_edit::laws::represented_tree_has_a_map();
+    gx_store::laws::writing_adds();
+    gx_store::laws::added_is_found();
+    gx_store::laws::found_stays();
+    gx_refs::laws::each_meets_one_fate();
+}
 
 /// A request that may be made has no cause to be refused.
 pub fn admitted_has_no_cause()
-    ensures { (settings : Settings) (r : CommitRequest) (state : State) (directory : Directory) (way : Way) (e : CommitEditsError)
-        → IsAdmitted settings r (whole state) directory way → Cause settings r (whole state) e → ⊥ }
-{}
+    ensures { (settings : Settings) (r : CommitRequest) (state : State) (output : Output) (way : Way)
+        (e : CommitEditsError)
+        → IsAdmitted settings r (whole state) output way → Cause settings r (whole state) e → ⊥ }
+{
+    laws_below();
+}
 
 /// A valid request may be made.
 pub fn valid_is_admitted()
-    ensures { (settings : Settings) (r : CommitRequest) (state : State) (directory : Directory)
-        → IsValidCommit settings r state → Makes r (whole state) directory → (way : Way) × IsAdmitted settings r (whole state) directory way }
-{}
+    ensures { (settings : Settings) (r : CommitRequest) (state : State) (output : Output)
+        → IsValidCommit settings r state → Makes r (whole state) output → (way : Way)
+        × IsAdmitted settings r (whole state) output way }
+{
+    laws_below();
+}
 
-/// A valid request is refused for lack of memory alone, where a store tells its state, can be read, and counts no fault.
+/// A valid request is refused for lack of memory alone, where a store tells its state, can be read, and counts no
+/// fault.
 pub fn valid_is_made()
     ensures { (settings : Settings) (r : CommitRequest) (state : State) (old new : StoreState) (e : CommitEditsError)
-        → view_of old ≡ whole state → IsFaultless old new → IsValidCommit settings r state → CommitEditsCauses settings r old new e → e ≡ no_memory }
-{}
+        → view_of old ≡ whole state → IsFaultless old new → IsValidCommit settings r state
+        → CommitEditsCauses settings r old new e → e ≡ no_memory }
+{
+    laws_below();
+}
 
-/// From an empty repository on, the path map of each commit that was accepted, or that a refused request left stored, is that of the edits along its first-parent line. There is such a line that begins with the commit's own request, and of every line this holds.
+/// From an empty repository on, the path map of each commit that was accepted, or that a refused request left stored,
+/// is that of the edits along its first-parent line. There is such a line that begins with the commit's own request,
+/// and of every line this holds.
 pub fn map_of_first_parent_line()
-    ensures accepted { (settings : Settings) (start end : State) (calls : List Call) → IsEmpty start → History settings start calls end → (call : Call) (id : ObjectId) → Contains calls call → call.answer ≡ Ok id
-        → (earlier : List CommitRequest) × IsLine calls id (call.request ∷ earlier) × IsMapOf end.hash end.content id (line_map end.hash (call.request ∷ earlier)) }
-    ensures stored { (settings : Settings) (start end : State) (calls : List Call) → IsEmpty start → History settings start calls end → (call : Call) (id : ObjectId) → Contains calls call → call.stored ≡ Some id
-        → (earlier : List CommitRequest) × IsLine calls id (call.request ∷ earlier) × IsMapOf end.hash end.content id (line_map end.hash (call.request ∷ earlier)) }
-    ensures every { (settings : Settings) (start end : State) (calls : List Call) → IsEmpty start → History settings start calls end → (id : ObjectId) (line : List CommitRequest) → IsLine calls id line
+    ensures accepted { (settings : Settings) (start end : State) (calls : List Call) → IsEmpty start
+        → History settings start calls end → (call : Call) (id : ObjectId) → Contains calls call → call.answer ≡ Ok id
+        → (earlier : List CommitRequest) × IsLine calls id (call.request ∷ earlier)
+        × IsMapOf end.hash end.content id (line_map end.hash (call.request ∷ earlier)) }
+    ensures stored { (settings : Settings) (start end : State) (calls : List Call) → IsEmpty start
+        → History settings start calls end → (call : Call) (id : ObjectId) → Contains calls call → call.stored ≡ Some id
+        → (earlier : List CommitRequest) × IsLine calls id (call.request ∷ earlier)
+        × IsMapOf end.hash end.content id (line_map end.hash (call.request ∷ earlier)) }
+    ensures every { (settings : Settings) (start end : State) (calls : List Call) → IsEmpty start
+        → History settings start calls end → (id : ObjectId) (line : List CommitRequest) → IsLine calls id line
         → IsMapOf end.hash end.content id (line_map end.hash line) }
-{}
+{
+    laws_below();
+}
 
-/// What `commit_edits` promises of a call, over a store that tells its state before and after, makes the call a step of a history.
+/// A commit that was made is accepted by the repository machine, where the store tells its state.
+pub fn commit_is_accepted()
+    ensures { (settings : Settings) (r : CommitRequest) (old new : StoreState) (id : ObjectId)
+        → Commits settings r old id new
+        → WhereTold (λ before after. Accepts settings r before id after) old new }
+{
+    laws_below();
+}
+
+/// What `commit_edits` promises of a call, over a store that tells its state before and after, makes the call a step of
+/// a history.
 pub fn call_is_a_step()
-    ensures { (settings : Settings) (r : CommitRequest) (old new : StoreState) (before after : State) (answer : Result ObjectId CommitEditsError)
-        → view_of old ≡ whole before → view_of new ≡ whole after → IfOk answer (λ id. Commits settings r old id new) → IfErr answer (Leaves settings r old new)
-        → (stored : Option ObjectId) × CallStep settings (record { request = r; answer = answer; stored = stored }) before after }
-{}
+    ensures { (settings : Settings) (r : CommitRequest) (old new : StoreState) (before after : State)
+        (answer : Result ObjectId CommitEditsError)
+        → view_of old ≡ whole before → view_of new ≡ whole after → IfOk answer (λ id. Commits settings r old id new)
+        → IfErr answer (Leaves settings r old new)
+        → (stored : Option ObjectId)
+        × CallStep settings (record { request = r; answer = answer; stored = stored }) before after }
+{
+    laws_below();
+}
 
 /// Every id of a program is whole, so that a history's premises ask of ids only that they are of the repository's kind.
 pub fn ids_are_whole(id: &ObjectId)

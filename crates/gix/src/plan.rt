@@ -86,7 +86,7 @@ fn plan_objects<S: Objects>(
         Kind::Commit.as_bytes(),
         commit.as_slice(),
     );
-    let Edited { map: _, blobs } = edited;
+    let Edited { editor: _, blobs } = edited;
     Ok(NewObjects {
         blobs,
         trees,
@@ -106,7 +106,7 @@ fn edit_base<S: Objects>(
     ensures err { (settings : Settings) → IfErr result (StageCauses settings (asked request.now) (S.state store.now)) }
 {
     let base = base_of(alloc, store, request)?;
-    make_edits(alloc, store.hash_kind(), base, request.edits)
+    make_edits(alloc, store, base, request.edits)
 }
 
 /// The third stage: the trees, the names in them, and what their entries name.
@@ -122,7 +122,7 @@ fn plan_trees<S: Objects>(
     ensures err { IfErr result (StageCauses settings (asked request.now) (S.state store.now)) }
 {
     let blobs = ids_of(alloc, &edited.blobs)?;
-    let trees = match edited.map.plan(alloc, store.hash_kind()) {
+    let trees = match edited.editor.plan() {
         Ok(trees) => trees,
         Err(refusal) => return Err(lifted(refusal)),
     };
@@ -155,7 +155,9 @@ fn check_identities(request: &Request<'_>) -> Result<(), CommitEditsError>
 }
 
 fn commit_bytes(alloc: Global, tree: &ObjectId, request: &Request<'_>) -> Result<Bytes, NoMemory>
-    ensures { IfOk result (λ bytes. bytes ≡ plain_commit_bytes tree.now (asked request.now).parents (asked request.now).author (asked request.now).committer (asked request.now).message) }
+    ensures { IfOk result (λ bytes. bytes
+        ≡ plain_commit_bytes tree.now (asked request.now).parents (asked request.now).author
+        (asked request.now).committer (asked request.now).message) }
 {
     let mut out = Vec::new(alloc);
     push_commit(

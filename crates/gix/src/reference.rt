@@ -23,7 +23,8 @@ pub(crate) fn movable_chain<S: References>(
     request: &Request<'_>,
 ) -> Result<Chain, CommitEditsError>
     ensures ok { IfOk result (IsMovable (asked request.now) (S.state store.now)) }
-    ensures err { (settings : Settings) → IsStorable settings (asked request.now) (view_of (S.state store.now)) → IfErr result (StageCauses settings (asked request.now) (S.state store.now)) }
+    ensures err { (settings : Settings) → IsStorable settings (asked request.now) (view_of (S.state store.now))
+        → IfErr result (StageCauses settings (asked request.now) (S.state store.now)) }
 {
     let chain = resolve(alloc, store, request.reference)?;
     let end = end_of(chain.names.as_slice());
@@ -91,7 +92,8 @@ fn check_free<S: References>(
     end: &FullName,
     found: &Option<Target>,
 ) -> Result<(), CommitEditsError>
-    ensures ok { OnOk result (found.now ≡ None → IfSome (S.state store.now).references (λ refs. IsFree refs.targets end.now)) }
+    ensures ok { OnOk result (found.now ≡ None
+        → IfSome (S.state store.now).references (λ refs. IsFree refs.targets end.now)) }
     ensures err { IfErr result (FreeCauses (S.state store.now) end.now found.now) }
 {
     if found.is_some() {

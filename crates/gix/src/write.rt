@@ -3,7 +3,6 @@
 ghost use Rattle.std.specs.Prelude.{◌≡◌, ◌++◌, ◌∷◌, [], ℕ, ◌≤◌, false, List, length, take, IfOk, OnOk, OnErr};
 ghost use Rattle.gx_hash.specs.declared.oid.ObjectId.{ObjectId};
 ghost use Rattle.gx_store.specs.State.{Becomes, HasCause, IfFault, all_stored};
-ghost use Rattle.gx_edit.specs.CanonicalTree.{Directory};
 ghost use Rattle.gx_edit.specs.PathMap.{blobs_in, blobs_of};
 ghost use Rattle.gix.specs.CommitRequest.{asked};
 ghost use Rattle.gix.specs.CommitEdits.{Grows, written_objects};
@@ -24,11 +23,11 @@ pub(crate) fn write_new<S: Objects>(
     request: &Request<'_>,
     objects: &NewObjects,
 ) -> Result<(), StoreError>
-    requires { (directory : Directory) × AreObjects (S.state store.old).hash (asked request.now) directory objects.now }
-    ensures ok { (directory : Directory) → AreObjects (S.state store.old).hash (asked request.now) directory objects.now
-        → OnOk result (Becomes (all_stored (written_objects (S.state store.old).hash (asked request.now) directory) (S.state store.old)) (S.state store.new)) }
-    ensures err { (directory : Directory) → AreObjects (S.state store.old).hash (asked request.now) directory objects.now
-        → OnErr result (Grows (written_objects (S.state store.old).hash (asked request.now) directory) (S.state store.old) (S.state store.new)) }
+    requires { AreObjects (S.state store.old).hash (asked request.now) objects.now }
+    ensures ok { OnOk result (Becomes
+        (all_stored (written_objects (asked request.now) objects.now.trees) (S.state store.old)) (S.state store.new)) }
+    ensures err { OnErr result (Grows (written_objects (asked request.now) objects.now.trees) (S.state store.old)
+        (S.state store.new)) }
     ensures fault { IfFault result (HasCause (S.state store.old) (S.state store.new)) }
 {
     write_blobs(alloc, store, request.edits, &objects.blobs)?;
@@ -45,7 +44,8 @@ fn write_blobs<S: Objects>(
 ) -> Result<(), StoreError>
     requires { ids.now ≡ blob_ids (S.state store.old).hash edits.now }
     ensures ok { OnOk result (Becomes (all_stored (blobs_of edits.now) (S.state store.old)) (S.state store.new)) }
-    ensures err { OnErr result ((n : ℕ) × (n ≤ length edits.now) × Becomes (all_stored (blobs_of (take n edits.now)) (S.state store.old)) (S.state store.new)) }
+    ensures err { OnErr result ((n : ℕ) × (n ≤ length edits.now)
+        × Becomes (all_stored (blobs_of (take n edits.now)) (S.state store.old)) (S.state store.new)) }
     ensures fault { IfFault result (HasCause (S.state store.old) (S.state store.new)) }
 {
     let mut rest = ids;
@@ -64,7 +64,8 @@ fn write_blob<'a, S: Objects>(
 ) -> Result<&'a [ObjectId], StoreError>
     requires { (more : List ObjectId) × (ids.now ≡ blob_ids (S.state store.old).hash (edit.now ∷ []) ++ more) }
     ensures ok { OnOk result (Becomes (all_stored (blobs_in edit.now) (S.state store.old)) (S.state store.new)) }
-    ensures rest { (more : List ObjectId) → ids.now ≡ blob_ids (S.state store.old).hash (edit.now ∷ []) ++ more → IfOk result (λ rest. rest.now ≡ more) }
+    ensures rest { (more : List ObjectId) → ids.now ≡ blob_ids (S.state store.old).hash (edit.now ∷ []) ++ more
+        → IfOk result (λ rest. rest.now ≡ more) }
     ensures err { OnErr result (Becomes (S.state store.old) (S.state store.new)) }
     ensures fault { IfFault result (HasCause (S.state store.old) (S.state store.new)) }
 {

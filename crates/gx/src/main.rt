@@ -1,7 +1,7 @@
 //! The program: a script of requests from standard input, applied to a store; a reply for each on standard output.
 #![tactic(auto)]
 
-ghost use Rattle.std.specs.Prelude.{◌≡◌, ◌↔◌, codes, Some, MatchResult};
+ghost use Rattle.std.specs.Prelude.{◌≡◌, ◌⊎◌, ◌↔◌, codes, Some, IsTrue, MatchResult};
 
 use gix::{Repository, Settings};
 use gx_hash::{HashKind, NoMemory};
@@ -22,7 +22,7 @@ and writes a reply for each to standard output.
   --memory         the store: in memory, with SHA-1 ids
   --memory-sha256  the same, with SHA-256 ids
   apply            applies the script
-  --help           prints this text
+  -h, --help       prints this text
   --version        prints the version
 
 status  0  each request of the script got an `ok`
@@ -32,10 +32,10 @@ status  0  each request of the script got an `ok`
         3  reading the script failed
         4  writing the replies failed
         5  out of memory
-        6  the words are not as above
+        6  the arguments are not as above
         7  the store failed
         8  the script has more than 2^40 bytes
-        9  not a repository
+        9  the first argument names no repository
 ";
 
 const VERSION: &str = "gx 0.1.0";
@@ -72,7 +72,7 @@ fn words_of(rt: &HostRuntime) -> io::Result<Vec<String>> {
 
 fn serve(rt: &HostRuntime, words: &[String]) -> u8 {
     match words {
-        [word] if word.as_str() == "--help" => printed(print!(rt; "{USAGE}")),
+        [word] if is_help(word.as_str()) => printed(print!(rt; "{USAGE}")),
         [word] if word.as_str() == "--version" => printed(println!(rt; "{VERSION}")),
         [] => apply(rt, words, HashKind::Sha1),
         [store, ..] => match hash_of(store.as_str()) {
@@ -80,6 +80,13 @@ fn serve(rt: &HostRuntime, words: &[String]) -> u8 {
             None => not_a_repository(rt),
         },
     }
+}
+
+/// Whether the word asks for help, as it does of Git.
+fn is_help(word: &str) -> bool
+    ensures { IsTrue result ↔ (word.now ≡ codes "-h" ⊎ word.now ≡ codes "--help") }
+{
+    word == "-h" || word == "--help"
 }
 
 /// The kind of ids in a store in memory, where the word asks for one.

@@ -5,7 +5,7 @@ use Rattle.std.proofs.lemmas.Bool.{and_parts, and_from, or_cases, eqb-true}
 use Rattle.std.proofs.lemmas.Bool.Decides.{nat_tests}
 use Rattle.std.proofs.lemmas.Str.{digit_value_digit}
 use Rattle.std.proofs.lemmas.Str.Parse.{digit_from_value}
-use Rattle.gx_object.specs.TimeSpelling.{SpellsTwoDigits, IsSignedBy, SpellsOffset}
+use Rattle.gx_object.specs.TimeSpelling.{SpellsTwoDigits, HasSign, SpellsOffset}
 use Rattle.gx_actor.specs.Offset.{is_offset, offset_of}
 
 -- a digit and its value
@@ -33,7 +33,7 @@ two_digits a b tens ones =
     (refl, ((omega arith, (x.small, (y.small, tt))), omega arith))
 
 -- a sign says on which side of UTC the offset is
-sign_step : (sign seconds : ℕ) (t : Bool) → (sign == 45) ≡ t → (sign == 43 || t) ≡ true → IsSignedBy sign seconds (if t then neg_ℤ (pos seconds) else pos seconds)
+sign_step : (sign seconds : ℕ) (t : Bool) → (sign == 45) ≡ t → (sign == 43 || t) ≡ true → HasSign sign seconds (if t then neg_ℤ (pos seconds) else pos seconds)
 sign_step sign seconds true minus is = inr (eqb-true sign 45 minus, refl)
 sign_step sign seconds false minus is =
     elim (or_cases (sign == 43) false is) [
@@ -74,7 +74,7 @@ offset_read (s ∷ a ∷ b ∷ c ∷ d ∷ []) is = five_read s a b c d is
 offset_read (s ∷ a ∷ b ∷ c ∷ d ∷ e ∷ more) is =
     let long = five_long (s ∷ a ∷ b ∷ c ∷ d ∷ e ∷ more) is in absurd (omega arith)
 
-signed_is : (sign seconds : ℕ) (offset : ℤ) → IsSignedBy sign seconds offset → ((sign == 43 || sign == 45) ≡ true) × (offset ≡ (if sign == 45 then neg_ℤ (pos seconds) else pos seconds))
+signed_is : (sign seconds : ℕ) (offset : ℤ) → HasSign sign seconds offset → ((sign == 43 || sign == 45) ≡ true) × (offset ≡ (if sign == 45 then neg_ℤ (pos seconds) else pos seconds))
 signed_is sign seconds offset (inl plus) = rw plus.0 (refl, plus.1)
 signed_is sign seconds offset (inr minus) = rw minus.0 (refl, minus.1)
 
@@ -104,7 +104,7 @@ pub record IsRead (text : List ℕ) (offset : ℤ) : Type 0 where
   pub form : is_offset text ≡ true
   pub value : offset ≡ offset_of text
 
-five_spelled : (sign a b c d hours minutes : ℕ) (offset : ℤ) → SpellsTwoDigits (a ∷ b ∷ []) hours → SpellsTwoDigits (c ∷ d ∷ []) minutes → IsSignedBy sign (3600 * hours + 60 * minutes) offset → IsRead (sign ∷ a ∷ b ∷ c ∷ d ∷ []) offset
+five_spelled : (sign a b c d hours minutes : ℕ) (offset : ℤ) → SpellsTwoDigits (a ∷ b ∷ []) hours → SpellsTwoDigits (c ∷ d ∷ []) minutes → HasSign sign (3600 * hours + 60 * minutes) offset → IsRead (sign ∷ a ∷ b ∷ c ∷ d ∷ []) offset
 five_spelled sign a b c d hours minutes offset h m signed =
     let x = two_digits_of a b hours h in
     let y = two_digits_of c d minutes m in

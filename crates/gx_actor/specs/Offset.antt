@@ -7,7 +7,7 @@ abbrev pub is_offset : List ℕ → Bool
 is_offset text =
     length text == 5 && begins_in_form (codes "?0000") text && (slice_index text 0 == 43 || slice_index text 0 == 45)
 
--- the seconds that they stand for (ours)
+-- the seconds that they are (ours)
 abbrev pub offset_of : List ℕ → ℤ
 offset_of text =
     let seconds : ℕ = 3600 * two_digits_at text 1 + 60 * two_digits_at text 3 in

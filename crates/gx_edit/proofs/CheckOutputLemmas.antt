@@ -62,6 +62,7 @@ module _ (o : Output) (s : StoreState) (given ids : List ObjectId) (has : (id : 
   missing_cause protect entries (error.FindExistingObject id) same x = absurd x.refused.1
   missing_cause protect entries (error.ObjectKind id actual) same x = absurd x.refused.1
   missing_cause protect entries (error.Decode id) same x = absurd x.refused.1
+  missing_cause protect entries error.IsTree same x = absurd x.refused.1
   missing_cause protect entries (error.InvalidFilename filename kind id source) same x = absurd x.refused.1
   missing_cause protect entries (error.MissingObject filename kind id) same x = record {
     entry = x.entry;
@@ -92,6 +93,7 @@ unsafe_cause o s given protect entries error.EmptyPathComponent same x = absurd 
 unsafe_cause o s given protect entries (error.FindExistingObject id) same x = absurd x.refused
 unsafe_cause o s given protect entries (error.ObjectKind id actual) same x = absurd x.refused
 unsafe_cause o s given protect entries (error.Decode id) same x = absurd x.refused
+unsafe_cause o s given protect entries error.IsTree same x = absurd x.refused
 unsafe_cause o s given protect entries (error.InvalidFilename filename kind id source) same x = record { entry = x.entry; among = subst (λ l. Contains l x.entry) same x.among; is = x.refused }
 unsafe_cause o s given protect entries (error.MissingObject filename kind id) same x = absurd x.refused
 unsafe_cause o s given protect entries (error.WriteObject field) same x = absurd x.refused

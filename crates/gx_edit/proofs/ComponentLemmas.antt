@@ -44,6 +44,13 @@ components_some (b ∷ bs) e = go (b == 47) (components bs) e
     go false [] e = cc
     go false (n ∷ p) e = cc
 
+pub some_name : (bs : List ℕ) → (c : List ℕ) × (p : Path) × (components bs ≡ c ∷ p)
+some_name bs = go (components bs) refl
+  where
+    go : (q : Path) → components bs ≡ q → (c : List ℕ) × (p : Path) × (components bs ≡ c ∷ p)
+    go [] e = absurd (components_some bs e)
+    go (c ∷ p) e = (c, p, e)
+
 -- a text that is one name is that name
 pub components_one : (bs n : List ℕ) → components bs ≡ n ∷ [] → n ≡ bs
 components_one [] n e = cc

@@ -14,7 +14,7 @@ use Rattle.gx_store.specs.State.{StoreState, Becomes, HasCause, OfFault, all_sto
 use Rattle.gx_store.specs.declared.error.StoreError.{StoreError}
 use Rattle.gx_store.specs.declared.error.StoreError.TheVariants as store_error
 use Rattle.gx_store.specs.declared.error.What.TheVariants.{Object, Name, Index, Listing, Write}
-use Rattle.gx_store.proofs.ContentLemmas.{writing_adds, added_is_found}
+use Rattle.gx_store.specs.Laws.{WritingAdds, AddedIsFound}
 use Rattle.gx_edit.specs.PathList.{PathList, map_of, has_zero, IsPathMap, IsRising}
 use Rattle.gx_edit.specs.PathMap.{PathMap}
 use Rattle.gx_edit.specs.CanonicalTree.{Directory, IsCanonical, StandsFor, Represents, tree_of, trees_below, trees_of}
@@ -138,6 +138,7 @@ module _ (o : Output) (protect : Option Protect) (s u : StoreState) where
   stored_cause entries (error.FindExistingObject id) same kept given stored x = absurd x.refused
   stored_cause entries (error.ObjectKind id actual) same kept given stored x = absurd x.refused
   stored_cause entries (error.Decode id) same kept given stored x = absurd x.refused
+  stored_cause entries error.IsTree same kept given stored x = absurd x.refused
   stored_cause entries (error.InvalidFilename filename kind id source) same kept given stored x = absurd x.refused
   stored_cause entries (error.MissingObject filename kind id) same kept given stored x =
       (given, stored, record { entry = x.entry; among = subst (λ l. Contains l x.entry) same x.among; is = x.refused })
@@ -155,6 +156,7 @@ names_cause o protect s entries error.EmptyPathComponent same x = absurd x.refus
 names_cause o protect s entries (error.FindExistingObject id) same x = absurd x.refused
 names_cause o protect s entries (error.ObjectKind id actual) same x = absurd x.refused
 names_cause o protect s entries (error.Decode id) same x = absurd x.refused
+names_cause o protect s entries error.IsTree same x = absurd x.refused
 names_cause o protect s entries (error.InvalidFilename filename kind id source) same x = (refl, record { entry = x.entry; among = subst (λ l. Contains l x.entry) same x.among; is = x.refused })
 names_cause o protect s entries (error.MissingObject filename kind id) same x = absurd x.refused
 names_cause o protect s entries (error.WriteObject field) same x = absurd x.refused
@@ -175,9 +177,9 @@ told_apart : (hash : HashKind) (objects : List (Kind × List ℕ)) (old new : Op
 told_apart hash objects None new P is f = tt
 told_apart hash objects (Some before) new P is f = λ apart. subst (λ t. IfSome t P) (sym is) (f before apart)
 
-pub represents_map : (m : PathMap) (protect : Option Protect) (s u : StoreState) (o : Output) → IsOutputOf s.hash m o → (result : Result ObjectId EditError) → IfOk result (λ id. Writes o protect s id u) → IfOk result (λ id. RepresentsMap m s id u)
-represents_map m protect s u o is (Err e) h = tt
-represents_map m protect s u o is (Ok id) h = λ directory stands.
+pub represents_map : WritingAdds → AddedIsFound → (m : PathMap) (protect : Option Protect) (s u : StoreState) (o : Output) → IsOutputOf s.hash m o → (result : Result ObjectId EditError) → IfOk result (λ id. Writes o protect s id u) → IfOk result (λ id. RepresentsMap m s id u)
+represents_map adds found m protect s u o is (Err e) h = tt
+represents_map adds found m protect s u o is (Ok id) h = λ directory stands.
     let one : is.directory ≡ directory = one_directory is.directory directory is.stands.canonical stands.canonical (λ p. is.stands.leaves p ∙ sym (stands.leaves p)) in
     let own : o ≡ output_of s.hash directory = is.is ∙ ap (output_of s.hash) one in
     told_apart s.hash (trees_of s.hash directory) s.content u.content (λ after. Represents s.hash after id m)
@@ -186,7 +188,7 @@ represents_map m protect s u o is (Ok id) h = λ directory stands.
       directory = directory;
       stands = stands;
       is_root = h.is_root ∙ ap (λ (x : Output). x.root) own;
-      stored = added_is_found s.hash (trees_of s.hash directory) before (with_objects s.hash (trees_of s.hash directory) before) apart (writing_adds s.hash (trees_of s.hash directory) before);
+      stored = found s.hash (trees_of s.hash directory) before (with_objects s.hash (trees_of s.hash directory) before) apart (adds s.hash (trees_of s.hash directory) before);
     })
 
 pub map_cause : (paths : PathList) (protect : Option Protect) (s u : StoreState) (o : Output) → IsOutputOf s.hash (map_of paths) o → (e : EditError) → WriteCauses o protect s u e → WriteMapCauses paths protect s u e
@@ -194,6 +196,7 @@ map_cause paths protect s u o is error.EmptyPathComponent c = absurd c
 map_cause paths protect s u o is (error.FindExistingObject id) c = absurd c
 map_cause paths protect s u o is (error.ObjectKind id actual) c = absurd c
 map_cause paths protect s u o is (error.Decode id) c = absurd c
+map_cause paths protect s u o is error.IsTree c = absurd c
 map_cause paths protect s u o is (error.InvalidFilename filename kind id source) c = record { output = o; is_output = is; is = c }
 map_cause paths protect s u o is (error.MissingObject filename kind id) c = record { output = o; is_output = is; is = c }
 map_cause paths protect s u o is (error.WriteObject field) c = absurd c
@@ -210,6 +213,7 @@ plan_cause paths protect s error.EmptyPathComponent c = absurd c
 plan_cause paths protect s (error.FindExistingObject id) c = absurd c
 plan_cause paths protect s (error.ObjectKind id actual) c = absurd c
 plan_cause paths protect s (error.Decode id) c = absurd c
+plan_cause paths protect s error.IsTree c = absurd c
 plan_cause paths protect s (error.InvalidFilename filename kind id source) c = absurd c
 plan_cause paths protect s (error.MissingObject filename kind id) c = absurd c
 plan_cause paths protect s (error.WriteObject field) c = (c, refl)

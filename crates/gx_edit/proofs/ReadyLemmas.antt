@@ -15,7 +15,7 @@ use Rattle.gx_object.specs.Mode.{kind_of_mode}
 use Rattle.gx_hash.specs.ObjectIds.{id_eq, has_id}
 use Rattle.gx_store.specs.Content.{Content, IsStored, id_of, object_at, with_objects}
 use Rattle.gx_store.specs.State.{StoreState, Becomes, all_stored}
-use Rattle.gx_store.proofs.ContentLemmas.{writing_adds}
+use Rattle.gx_store.specs.Laws.{WritingAdds}
 use Rattle.gx_edit.specs.CheckOutput.{IsNeeded, MayBeWritten, IsReady, IsOfStore}
 use Rattle.gx_edit.specs.Entries.{is_link, IsSafe}
 use Rattle.gx_edit.specs.Output.{Output}
@@ -35,8 +35,8 @@ second_of (Some x) added empty new is h = subst (λ o. IsSome (option_or o empty
 second_of None (Some x) empty new is h = subst (λ o. IsSome (option_or o empty)) (sym is) refl
 second_of None None empty new is h = absurd (true≢false (sym h))
 
-stored_kept : (hash : HashKind) (objects : List (Kind × List ℕ)) (content : Content) (id : ObjectId) → IsStored content id → IsStored (with_objects hash objects content) id
-stored_kept hash objects content id h = first_of (get content id) (object_at hash objects id) _ (get (with_objects hash objects content) id) (writing_adds hash objects content id) h
+stored_kept : WritingAdds → (hash : HashKind) (objects : List (Kind × List ℕ)) (content : Content) (id : ObjectId) → IsStored content id → IsStored (with_objects hash objects content) id
+stored_kept law hash objects content id h = first_of (get content id) (object_at hash objects id) _ (get (with_objects hash objects content) id) (law hash objects content id) h
 
 object_there : (hash : HashKind) (objects : List (Kind × List ℕ)) (id : ObjectId) → has_id (map (id_of hash) objects) id ≡ true → IsSome (object_at hash objects id)
 object_there hash [] id h = absurd (true≢false (sym h))
@@ -46,24 +46,24 @@ object_there hash (o ∷ objects) id h = go (id_eq (id_of hash o) id) (λ e. obj
     go true rest e = refl
     go false rest e = rest e
 
-stored_brought : (hash : HashKind) (objects : List (Kind × List ℕ)) (content : Content) (id : ObjectId) → has_id (map (id_of hash) objects) id ≡ true → IsStored (with_objects hash objects content) id
-stored_brought hash objects content id h = second_of (get content id) (object_at hash objects id) _ (get (with_objects hash objects content) id) (writing_adds hash objects content id) (object_there hash objects id h)
+stored_brought : WritingAdds → (hash : HashKind) (objects : List (Kind × List ℕ)) (content : Content) (id : ObjectId) → has_id (map (id_of hash) objects) id ≡ true → IsStored (with_objects hash objects content) id
+stored_brought law hash objects content id h = second_of (get content id) (object_at hash objects id) _ (get (with_objects hash objects content) id) (law hash objects content id) (object_there hash objects id h)
 
-pub made_ready : (given : List ObjectId) (objects : List (Kind × List ℕ)) (before : Content) (checked ready : StoreState) → ((id : ObjectId) → has_id given id ≡ true → has_id (map (id_of checked.hash) objects) id ≡ true) → checked.content ≡ Some before
+pub made_ready : WritingAdds → (given : List ObjectId) (objects : List (Kind × List ℕ)) (before : Content) (checked ready : StoreState) → ((id : ObjectId) → has_id given id ≡ true → has_id (map (id_of checked.hash) objects) id ≡ true) → checked.content ≡ Some before
     → Becomes (all_stored objects checked) ready → IsReady given checked ready
-made_ready given objects before checked ready ids told b = record {
+made_ready law given objects before checked ready ids told b = record {
   same_hash = ap (λ (s : StoreState). s.hash) b.same;
   before = before;
   after = with_objects checked.hash objects before;
   told_before = told;
   told_after = ap (λ (s : StoreState). s.content) b.same ∙ ap (option_map (with_objects checked.hash objects)) told;
-  kept = λ id there. stored_kept checked.hash objects before id there;
-  brought = λ id there. stored_brought checked.hash objects before id (ids id there);
+  kept = λ id there. stored_kept law checked.hash objects before id there;
+  brought = λ id there. stored_brought law checked.hash objects before id (ids id there);
 }
 
 -- ---- the entries that were checked
 
-module _ (o : Output) (protect : Protect) (given : List ObjectId) (checked ready : StoreState) (own : o.hash ≡ checked.hash) (m : MayBeWritten o protect given checked) (r : IsReady given checked ready) where
+module _ (law : WritingAdds) (o : Output) (protect : Protect) (given : List ObjectId) (checked ready : StoreState) (own : o.hash ≡ checked.hash) (m : MayBeWritten o protect given checked) (r : IsReady given checked ready) where
   passes : (e : Entry) → Contains o.entries e → IsComponent e.filename (is_link e) protect
   passes e among = All-contains (IsSafe (Some protect)) o.entries e (All-from_recursion (IsSafe (Some protect)) o.entries m.safe) among
 
@@ -80,11 +80,11 @@ module _ (o : Output) (protect : Protect) (given : List ObjectId) (checked ready
       before needed = subst (λ told. IfSome told (λ content. IsStored content e.oid)) r.told_before (stored needed)
 
       after : IsStored r.after e.oid → IsStored (with_objects o.hash o.trees r.after) e.oid
-      after there = stored_kept o.hash o.trees r.after e.oid there
+      after there = stored_kept law o.hash o.trees r.after e.oid there
 
       go : (b : Bool) → has_id given e.oid ≡ b → (t : Bool) → has_id (map (id_of o.hash) o.trees) e.oid ≡ t → IsStored (with_objects o.hash o.trees r.after) e.oid
       go true is t among = after (r.brought e.oid is)
-      go false is true among = stored_brought o.hash o.trees r.after e.oid among
+      go false is true among = stored_brought law o.hash o.trees r.after e.oid among
       go false is false among = after (r.kept e.oid (before (record { no_submodule = other; not_given = is; no_tree = among })))
 
   told_new : (new : StoreState) → StoresTrees o (Some protect) ready new → new.content ≡ Some (with_objects o.hash o.trees r.after)
@@ -96,6 +96,7 @@ module _ (o : Output) (protect : Protect) (given : List ObjectId) (checked ready
   no_fault new (error.FindExistingObject id) c = c
   no_fault new (error.ObjectKind id actual) c = c
   no_fault new (error.Decode id) c = c
+  no_fault new error.IsTree c = c
   no_fault new (error.InvalidFilename filename kind id source) c = passes c.1.entry c.1.among source c.1.is.1.broken
   no_fault new (error.MissingObject filename kind id) c =
       subst (λ told. IfSome told (λ content. IsStored content id → ⊥)) (told_new new c.1) c.2.is.2

@@ -32,6 +32,7 @@ leaf_at (File n leaf rest) (c ∷ d ∷ p) = leaf_at rest (c ∷ d ∷ p)
 leaf_at (Sub n inner rest) [] = None
 leaf_at (Sub n inner rest) (c ∷ p) = if bytes_eq n c then leaf_at inner p else leaf_at rest (c ∷ p)
 
+-- the first bytes sort before the second
 abbrev pub IsBelow : List ℕ → List ℕ → Type 0
 IsBelow a b = name_cmp a b ≡ Less
 
@@ -43,13 +44,17 @@ Follow n key (Sub m inner rest) = (n ≢ m) × IsBelow key (m ++ 47 ∷ []) × F
 
 -- A leaf is a file, a link or a submodule, and so its mode is one of theirs. (git-fast-import(1), "filemodify")
 abbrev pub IsLeafMode : ℕ → Type 0
-IsLeafMode mode = (mode ≡ mode_of entry_kind.Blob) ⊎ (mode ≡ mode_of entry_kind.BlobExecutable) ⊎ (mode ≡ mode_of entry_kind.Link) ⊎ (mode ≡ mode_of entry_kind.Commit)
+IsLeafMode mode = (mode ≡ mode_of entry_kind.Blob) ⊎ (mode ≡ mode_of entry_kind.BlobExecutable)
+    ⊎ (mode ≡ mode_of entry_kind.Link) ⊎ (mode ≡ mode_of entry_kind.Commit)
 
--- A directory is canonical where its names are names, each stands once, entries rise by their sort keys (a directory's name counts as if a slash followed it), leaves have the modes of leaves, and no directory below it is empty. (git-mktree(1); git-fsck(1), "treeNotSorted", "duplicateEntries", "badFilemode")
+-- A directory is canonical where its names are names, each stands once, entries rise by their sort keys (a directory's
+-- name counts as if a slash followed it), leaves have the modes of leaves, and no directory below it is empty.
+-- (git-mktree(1); git-fsck(1), "treeNotSorted", "duplicateEntries", "badFilemode")
 abbrev pub IsCanonical : Directory → Type 0
 IsCanonical End = Unit {0}
 IsCanonical (File n leaf rest) = IsName n × Follow n n rest × IsCanonical rest × IsLeafMode leaf.mode.value
-IsCanonical (Sub n inner rest) = IsName n × (inner ≢ End) × IsCanonical inner × Follow n (n ++ 47 ∷ []) rest × IsCanonical rest
+IsCanonical (Sub n inner rest) = IsName n × (inner ≢ End) × IsCanonical inner × Follow n (n ++ 47 ∷ []) rest
+    × IsCanonical rest
 
 -- a canonical directory with just the leaves of the map
 pub record StandsFor (directory : Directory) (m : PathMap) : Type 0 where
@@ -60,7 +65,11 @@ pub record StandsFor (directory : Directory) (m : PathMap) : Type 0 where
 abbrev pub entries_of : HashKind → Directory → List Entry
 entries_of hash End = []
 entries_of hash (File n leaf rest) = record { mode = leaf.mode; filename = n; oid = leaf.id } ∷ entries_of hash rest
-entries_of hash (Sub n inner rest) = record { mode = record { value = mode_of entry_kind.Tree }; filename = n; oid = object_id hash (kind_name kind.Tree) (tree_bytes (entries_of hash inner)) } ∷ entries_of hash rest
+entries_of hash (Sub n inner rest) = record {
+  mode = record { value = mode_of entry_kind.Tree };
+  filename = n;
+  oid = object_id hash (kind_name kind.Tree) (tree_bytes (entries_of hash inner));
+} ∷ entries_of hash rest
 
 -- the tree object of a directory
 abbrev pub tree_of : HashKind → Directory → Kind × List ℕ
@@ -83,10 +92,16 @@ trees_of hash directory = trees_below hash directory ++ tree_of hash directory �
 -- the entries of all trees of a directory; the entry of a directory below comes after those in it
 abbrev pub entries_within : HashKind → Directory → List Entry
 entries_within hash End = []
-entries_within hash (File n leaf rest) = record { mode = leaf.mode; filename = n; oid = leaf.id } ∷ entries_within hash rest
-entries_within hash (Sub n inner rest) = entries_within hash inner ++ record { mode = record { value = mode_of entry_kind.Tree }; filename = n; oid = root_of hash inner } ∷ entries_within hash rest
+entries_within hash (File n leaf rest) =
+    record { mode = leaf.mode; filename = n; oid = leaf.id } ∷ entries_within hash rest
+entries_within hash (Sub n inner rest) = entries_within hash inner ++ record {
+  mode = record { value = mode_of entry_kind.Tree };
+  filename = n;
+  oid = root_of hash inner;
+} ∷ entries_within hash rest
 
--- A tree represents a path map in a content where it is the root of the map's canonical directory, and all trees of that directory are stored. (Git, "Git Internals - Git Objects", "Tree Objects")
+-- A tree represents a path map in a content where it is the root of the map's canonical directory, and all trees of
+-- that directory are stored. (Git, "Git Internals - Git Objects", "Tree Objects")
 pub record Represents (hash : HashKind) (content : Content) (tree : ObjectId) (m : PathMap) : Type 0 where
   pub directory : Directory
   pub stands : StandsFor directory m

@@ -16,14 +16,17 @@ use Rattle.gx_edit.specs.declared.error.EditError.TheVariants.{InvalidFilename, 
 
 -- the error tells the first rule that the entry's name breaks
 abbrev pub IsUnsafe : Option Protect → Entry → EditError → Type 0
-IsUnsafe protect entry (InvalidFilename filename kind id source) = IsEntry entry filename kind id × IsSomeAnd protect (λ p. IsFirstViolated entry.filename (is_link entry) p source)
+IsUnsafe protect entry (InvalidFilename filename kind id source) = IsEntry entry filename kind id
+    × IsSomeAnd protect (λ p. IsFirstViolated entry.filename (is_link entry) p source)
 IsUnsafe protect entry NoMemory = Unit {0}
 IsUnsafe protect entry _ = ⊥
 
 -- the entry, no submodule, names what is not stored, or can't be read
 abbrev pub IsMissing : StoreState → Entry → EditError → Type 0
-IsMissing state entry (MissingObject filename kind id) = IsEntry entry filename kind id × (kind ≢ entry_kind.Commit) × IfSome state.content (λ content. IsStored content id → ⊥)
-IsMissing state entry (Store (what.Object id)) = IsTrue (state.unreadable (what.Object id)) × (entry.oid ≡ id) × (kind_of_mode entry.mode.value ≢ entry_kind.Commit)
+IsMissing state entry (MissingObject filename kind id) = IsEntry entry filename kind id × (kind ≢ entry_kind.Commit)
+    × IfSome state.content (λ content. IsStored content id → ⊥)
+IsMissing state entry (Store (what.Object id)) = IsTrue (state.unreadable (what.Object id)) × (entry.oid ≡ id)
+    × (kind_of_mode entry.mode.value ≢ entry_kind.Commit)
 IsMissing state entry NoMemory = Unit {0}
 IsMissing state entry _ = ⊥
 

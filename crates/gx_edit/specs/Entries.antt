@@ -10,6 +10,7 @@ use Rattle.gx_object.specs.Mode.{kind_of_mode}
 use Rattle.gx_store.specs.Content.{IsStored}
 use Rattle.gx_store.specs.State.{StoreState}
 
+-- whether such an entry is a symbolic link
 abbrev pub is_link_kind : EntryKind → Bool
 is_link_kind entry_kind.Link = true
 is_link_kind entry_kind.Tree = false
@@ -25,9 +26,11 @@ is_link entry = is_link_kind (kind_of_mode entry.mode.value)
 abbrev pub IsSafe : Option Protect → Entry → Type 0
 IsSafe protect entry = IfSome protect (IsComponent entry.filename (is_link entry))
 
--- The entry is a submodule, whose commit stands in another repository, or names what is stored, where that is told. (gitsubmodules(7))
+-- The entry is a submodule, whose commit stands in another repository, or names what is stored, where the store tells
+-- what it holds. (gitsubmodules(7))
 abbrev pub IsComplete : StoreState → Entry → Type 0
-IsComplete state entry = kind_of_mode entry.mode.value ≢ entry_kind.Commit → IfSome state.content (λ content. IsStored content entry.oid)
+IsComplete state entry = kind_of_mode entry.mode.value ≢ entry_kind.Commit
+    → IfSome state.content (λ content. IsStored content entry.oid)
 
 -- it is the entry that the error tells
 pub record IsEntry (entry : Entry) (filename : List ℕ) (kind : EntryKind) (id : ObjectId) : Type 0 where

@@ -6,14 +6,17 @@ use Rattle.gx_hash.specs.declared.oid.ObjectId.{ObjectId}
 use Rattle.gx_object.specs.declared.kind.Kind.{Kind}
 use Rattle.gx_object.specs.declared.kind.Kind.TheVariants as kind
 use Rattle.gx_object.specs.declared.tree.Entry.{Entry}
+use Rattle.gx_object.specs.declared.tree.EntryKind.TheVariants as entry_kind
+use Rattle.gx_object.specs.Mode.{mode_of}
 use Rattle.gx_object.specs.Tree.{is_writable_filename}
 use Rattle.gx_object.specs.TreeSpelling.{SpellsTree}
-use Rattle.gx_store.specs.Content.{Content, HoldsAll, Adds, AreApart, lookup}
+use Rattle.gx_store.specs.Content.{Content, HoldsAll, Adds, AreApart, IsStored, lookup, id_of}
 use Rattle.gx_edit.specs.Path.{Path, IsName, components}
 use Rattle.gx_edit.specs.PathMap.{PathMap, no_paths, put, dropped, edited, path_of}
 use Rattle.gx_edit.specs.PathList.{IsLeaf, has_empty_name}
 use Rattle.gx_edit.specs.SharedIds.{HasIdsOf}
 use Rattle.gx_edit.specs.CanonicalTree.{Directory, StandsFor, Represents, entries_of, root_of, tree_of, trees_of}
+use Rattle.gx_edit.specs.EditorCauses.{IsOnWay}
 use Rattle.gx_edit.specs.Output.{Output}
 use Rattle.gx_edit.specs.View.{Names, View, IsLoad, names_of, only, opened, upserted, removed}
 use Rattle.gx_edit.specs.StandsForMap.{StandsForMap, HasMap, HasPlainNames, IsAbove, IsKept, item_of, without_leaf}
@@ -62,7 +65,7 @@ abbrev pub UpsertedLoads : Type 0
 UpsertedLoads = (hash : HashKind) (load : ObjectId → Names) (v : View) (p : Path) (leaf : Leaf) (q : Path)
     → IsSome (upserted hash load v p (item_of leaf) q) → IsSome (v q) ⊎ IsAbove q p
 
--- And so it is where a path is removed.
+-- Where a path is removed, no directory comes to be loaded but those that lead to it.
 abbrev pub RemovedLoads : Type 0
 RemovedLoads = (hash : HashKind) (load : ObjectId → Names) (v : View) (p q : Path)
     → IsSome (removed hash load v p q) → IsSome (v q) ⊎ IsAbove q p
@@ -73,7 +76,7 @@ EditedStands = (hash : HashKind) (content : Content) (load : ObjectId → Names)
     (edits : List PathEdit) → IsLoad hash content load → AllByRecursion (PutsOwnId hash) edits
     → StandsForMap hash content v m → StandsForMap hash content (edited_view hash load v edits) (edited hash m edits)
 
--- And no directory comes to be loaded but those that lead to one of their paths.
+-- Where edits are made, no directory comes to be loaded but those that lead to one of their paths.
 abbrev pub EditedLoads : Type 0
 EditedLoads = (hash : HashKind) (load : ObjectId → Names) (v : View) (edits : List PathEdit) (q : Path)
     → IsSome (edited_view hash load v edits q) → IsSome (v q) ⊎ LeadsToEdit edits q
@@ -87,6 +90,12 @@ GrownStands = (hash : HashKind) (old new : Content) (v : View) (m : PathMap) →
 abbrev pub InsideStands : Type 0
 InsideStands = (hash : HashKind) (content : Content) (v : View) (m : PathMap) (d : Path)
     → StandsForMap hash content v m → IsSome (v d) → StandsForMap hash content (inside v d) (λ q. m (d ++ q))
+
+-- Where a view stands for a map, each tree that is loaded on the way to a path has a map.
+abbrev pub LoadedHasMap : Type 0
+LoadedHasMap = (hash : HashKind) (content : Content) (load : ObjectId → Names) (v : View) (m : PathMap) (path : Path)
+    (id : ObjectId) → IsLoad hash content load → StandsForMap hash content v m → IsOnWay hash load v path id
+    → (inner : PathMap) × HasMap hash content id inner
 
 -- ---- what is written of a view
 
@@ -108,6 +117,33 @@ WrittenInside = (hash : HashKind) (content : Content) (v : View) (m : PathMap) (
     → (inner : Directory) × StandsFor inner (λ q. m (p ++ q)) × (entries ≡ entries_of hash inner)
     × Contains (trees_of hash directory) (tree_of hash inner)
 
+-- A leaf of the map stands at the entry's name in the directory at the path, and has the entry's mode and id.
+pub record IsLeafOf (m : PathMap) (p : Path) (entry : Entry) : Type 0 where
+  pub leaf : Leaf
+  pub there : m (p ++ entry.filename ∷ []) ≡ Some leaf
+  pub mode : entry.mode ≡ leaf.mode
+  pub id : entry.oid ≡ leaf.id
+
+-- The entry is that of a directory in the one at the path: the map has a leaf below it, and its tree is among those
+-- that are written, or is stored.
+pub record IsTreeOf (hash : HashKind) (content : Content) (output : Output) (m : PathMap) (p : Path)
+    (entry : Entry) : Type 0 where
+  pub mode : entry.mode.value ≡ mode_of entry_kind.Tree
+  pub name : List ℕ
+  pub rest : Path
+  pub leaf : Leaf
+  pub some : m (p ++ entry.filename ∷ name ∷ rest) ≡ Some leaf
+  pub held : ((tree : Kind × List ℕ) × Contains output.trees tree × (entry.oid ≡ id_of hash tree))
+      ⊎ IsStored content entry.oid
+
+-- Each entry that is written of a view that stands for a map is that of a leaf of the map, or of a directory whose tree
+-- is written or stored.
+abbrev pub WrittenEntriesStand : Type 0
+WrittenEntriesStand = (hash : HashKind) (content : Content) (v : View) (m : PathMap) (output : Output)
+    → StandsForMap hash content v m → IsOutputOfView hash v output
+    → AllByRecursion (λ entry. (p : Path) × (IsLeafOf m p entry ⊎ IsTreeOf hash content output m p entry))
+    output.entries
+
 -- Where nothing is loaded below the root of a tree that has a map, the tree is written as it is.
 abbrev pub WrittenAsRead : Type 0
 WrittenAsRead = (hash : HashKind) (content : Content) (tree : ObjectId) (m : PathMap) (directory : Directory)
@@ -121,7 +157,7 @@ WrittenDirectory = (hash : HashKind) (content : Content) (v : View) (m : PathMap
     → AllByRecursion (λ (entry : Entry). IsName entry.filename) output.entries
     → (directory : Directory) × StandsFor directory m
 
--- So it has where the names on the map's paths are plain, and all that is written can be spelled.
+-- Where the names on the map's paths are plain, and all that is written can be spelled, the map has a directory.
 abbrev pub WrittenPlainDirectory : Type 0
 WrittenPlainDirectory = (hash : HashKind) (content : Content) (v : View) (m : PathMap) (output : Output)
     → StandsForMap hash content v m → IsOutputOfView hash v output → HasPlainNames m
@@ -133,7 +169,7 @@ abbrev pub RepresentedIsPlain : Type 0
 RepresentedIsPlain = (hash : HashKind) (content : Content) (tree : ObjectId) (m : PathMap)
     → Represents hash content tree m → HasPlainNames m
 
--- They stay so where edits are made whose paths have no empty name.
+-- The names on a map's paths stay plain where edits are made whose paths have no empty name.
 abbrev pub EditedIsPlain : Type 0
 EditedIsPlain = (hash : HashKind) (m : PathMap) (edits : List PathEdit) → HasPlainNames m
     → AllByRecursion (λ (edit : PathEdit). has_empty_name (components (path_of edit)) ≡ false) edits
@@ -152,8 +188,8 @@ WrittenRepresents = (hash : HashKind) (old new : Content) (v : View) (m : PathMa
     (directory : Directory) → StandsForMap hash old v m → IsOutputOfView hash v output → StandsFor directory m
     → IsKept old new → HoldsAll hash output.trees new → Represents hash new output.root m
 
--- Where objects are added, the trees among them, and no two share an id, the root has the map, if the ids of its leaves
--- are of the kind.
+-- Where objects are added, the trees among them, no two different ones share an id, and none has the null id, the root
+-- has the map, if the ids of its leaves are of the kind.
 abbrev pub WrittenHasMap : Type 0
 WrittenHasMap = (hash : HashKind) (old new : Content) (v : View) (m : PathMap) (output : Output)
     (directory : Directory) (objects : List (Kind × List ℕ)) → StandsForMap hash old v m

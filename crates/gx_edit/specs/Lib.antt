@@ -1,8 +1,13 @@
 pub mod CanonicalTree
 pub mod CheckOutput
 pub mod Checking
+pub mod Editor
+pub mod EditorCauses
+pub mod EditorPlan
+pub mod EditorWriting
 pub mod Entries
 pub mod LawsView
+pub mod Nodes
 pub mod OpenTree
 pub mod Output
 pub mod Path

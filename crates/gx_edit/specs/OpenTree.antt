@@ -32,14 +32,32 @@ pub record IsOpened (hash : HashKind) (told : Option Content) (id : ObjectId) (t
   pub own : id ≡ object_id hash (kind_name kind.Tree) (tree_bytes tree.entries.items)
   pub spells : SpellsRising hash (tree_bytes tree.entries.items) tree.entries.items
 
+-- Why the tree at the id is not loaded: it can't be read, is not stored, is no tree, or its bytes spell none.
+abbrev pub LoadCauses : StoreState → ObjectId → EditError → Type 0
+LoadCauses state id edit_error.NoMemory = Unit {0}
+LoadCauses state id (edit_error.Store fault) = IsUnreadable state (what.Object id) fault
+LoadCauses state id (edit_error.FindExistingObject named) = (named ≡ id)
+    × IfSome state.content (λ content. lookup content id ≡ None)
+LoadCauses state id (edit_error.ObjectKind named actual) = (named ≡ id)
+    × IfSome state.content (λ content. (actual ≢ kind.Tree) × (bytes : List ℕ)
+    × (lookup content id ≡ Some (actual, bytes)))
+LoadCauses state id (edit_error.Decode named) = (named ≡ id) × IfSome state.content (λ content. (bytes : List ℕ)
+    × (lookup content id ≡ Some (kind.Tree, bytes)) × ((entries : List Entry) → ¬ SpellsTree state.hash bytes entries))
+LoadCauses state id _ = ⊥
+
 -- Why the tree at the id is not opened.
 abbrev pub OpenCauses : StoreState → ObjectId → EditError → Type 0
 OpenCauses state id edit_error.NoMemory = Unit {0}
 OpenCauses state id (edit_error.Store fault) = IsUnreadable state (what.Object id) fault
-OpenCauses state id (edit_error.FindExistingObject named) = (named ≡ id) × IfSome state.content (λ content. lookup content id ≡ None)
-OpenCauses state id (edit_error.ObjectKind named actual) = (named ≡ id) × IfSome state.content (λ content. (actual ≢ kind.Tree) × (bytes : List ℕ) × (lookup content id ≡ Some (actual, bytes)))
-OpenCauses state id (edit_error.Decode named) = (named ≡ id) × IfSome state.content (λ content. (bytes : List ℕ) × (lookup content id ≡ Some (kind.Tree, bytes))
-    × (((entries : List Entry) → ¬ SpellsCanonically state.hash bytes entries) ⊎ (id ≢ object_id state.hash (kind_name kind.Tree) bytes)))
+OpenCauses state id (edit_error.FindExistingObject named) = (named ≡ id)
+    × IfSome state.content (λ content. lookup content id ≡ None)
+OpenCauses state id (edit_error.ObjectKind named actual) = (named ≡ id)
+    × IfSome state.content (λ content. (actual ≢ kind.Tree) × (bytes : List ℕ)
+    × (lookup content id ≡ Some (actual, bytes)))
+OpenCauses state id (edit_error.Decode named) = (named ≡ id) × IfSome state.content (λ content. (bytes : List ℕ)
+    × (lookup content id ≡ Some (kind.Tree, bytes))
+    × (((entries : List Entry) → ¬ SpellsCanonically state.hash bytes entries)
+    ⊎ (id ≢ object_id state.hash (kind_name kind.Tree) bytes)))
 OpenCauses state id _ = ⊥
 
 -- the id is that of one of the trees

@@ -11,7 +11,8 @@ use Rattle.gx_edit.specs.CanonicalTree.{Directory, StandsFor, trees_of, entries_
 use Rattle.gx_edit.specs.declared.error.EditError.{EditError}
 use Rattle.gx_edit.specs.declared.error.EditError.TheVariants.{WriteObject, NoMemory}
 
--- What is to be written of a path map: the trees, their entries and the root, known before anything is stored.
+-- What is to be written, of a path map or of an editor's view: the trees, their entries and the root, known before
+-- anything is stored.
 pub record Output : Type 0 where
   -- the kind of every id
   pub hash : HashKind
@@ -23,7 +24,12 @@ pub record Output : Type 0 where
 
 -- the trees of a directory
 abbrev pub output_of : HashKind → Directory → Output
-output_of hash directory = record { hash = hash; trees = trees_of hash directory; entries = entries_within hash directory; root = root_of hash directory }
+output_of hash directory = record {
+  hash = hash;
+  trees = trees_of hash directory;
+  entries = entries_within hash directory;
+  root = root_of hash directory;
+}
 
 -- The output of a path map is that of its canonical directory.
 pub record IsOutputOf (hash : HashKind) (m : PathMap) (output : Output) : Type 0 where
@@ -37,7 +43,8 @@ pub record SomeEntry (output : Output) (P : Entry → Type 0) : Type 0 where
   pub among : Contains output.entries entry
   pub is : P entry
 
--- Why the trees of a path map are not planned: a path holds a zero byte; or none does, so that a canonical directory stands for the map, and memory ran out.
+-- Why the trees of a path map are not planned: a path holds a zero byte; or none does, so that a canonical directory
+-- stands for the map, and memory ran out.
 abbrev pub PlanCauses : PathList → EditError → Type 0
 PlanCauses paths (WriteObject field) = (field ≡ FileName) × (has_zero paths ≡ true)
 PlanCauses paths NoMemory = (directory : Directory) × StandsFor directory (map_of paths)

@@ -3,7 +3,8 @@ use Rattle.std.specs.Prelude.{◌≢◌, ℕ, Bool, true, false, ◌&&◌, List,
 use Rattle.std.specs.Cmp.Lexicographic.{pointwise}
 pub use Rattle.gx_rules.specs.Path.{Path, at_front, components}
 
--- A name in a tree is not empty and holds neither a slash nor a zero byte, which ends a name there. (git-fsck(1), "emptyName", "fullPathname"; Git, "Git Internals - Git Objects", "Tree Objects")
+-- A name in a tree is not empty and holds neither a slash nor a zero byte, which ends a name there. (git-fsck(1),
+-- "emptyName", "fullPathname"; Git, "Git Internals - Git Objects", "Tree Objects")
 pub record IsName (name : List ℕ) : Type 0 where
   pub not_empty : name ≢ []
   pub no_slash : Contains name 47 → ⊥

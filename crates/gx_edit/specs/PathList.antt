@@ -28,16 +28,19 @@ map_of (row ∷ rows) q = if path_eq (components row.0) q then Some row.1 else m
 abbrev pub leaf_of : EntryKind → ObjectId → Leaf
 leaf_of kind id = record { mode = record { value = mode_of kind }; id = id }
 
--- A path of a map has names, and each is neither empty nor holds a slash. It may hold a zero byte, which only a tree that is written refuses.
+-- A path of a map has names, and each is neither empty nor holds a slash. It may hold a zero byte, which only a tree
+-- that is written refuses.
 abbrev pub IsWhole : Path → Type 0
 IsWhole p = (p ≢ []) × AllByRecursion (λ name. (name ≢ []) × (Contains name 47 → ⊥)) p
 
--- A leaf has the mode of a file, a link or a submodule, and an id that is not null. (git-fsck(1), "badFilemode", "nullSha1")
+-- A leaf has the mode of a file, a link or a submodule, and an id that is not null.
+-- (git-fsck(1), "badFilemode", "nullSha1")
 pub record IsLeaf (leaf : Leaf) : Type 0 where
   pub mode : IsLeafMode leaf.mode.value
   pub id : leaf.id ≢ null_id (kind_of leaf.id)
 
--- What every path map keeps: its paths are whole, leaves are leaves, and none stands below another, since a name is a leaf or a directory and never both.
+-- What every path map keeps: its paths are whole, leaves are leaves, and none stands below another, since a name is a
+-- leaf or a directory and never both.
 pub record IsPathMap (m : PathMap) : Type 0 where
   pub whole : (p : Path) (leaf : Leaf) → m p ≡ Some leaf → IsWhole p
   pub leaves : (p : Path) (leaf : Leaf) → m p ≡ Some leaf → IsLeaf leaf
@@ -47,7 +50,8 @@ pub record IsPathMap (m : PathMap) : Type 0 where
 abbrev pub IsRising : PathList → Type 0
 IsRising rows = IsStrictlySortedBy name_cmp (map (λ row. row.0) rows)
 
--- A path of the map holds a zero byte. No tree can spell that, since a zero byte ends a name there. (Git, "Git Internals - Git Objects", "Tree Objects")
+-- A path of the map holds a zero byte. No tree can spell that, since a zero byte ends a name there. (Git, "Git
+-- Internals - Git Objects", "Tree Objects")
 abbrev pub has_zero : PathList → Bool
 has_zero paths = list_any (λ row. list_any (λ b. b == 0) row.0) paths
 

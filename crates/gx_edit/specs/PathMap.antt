@@ -21,7 +21,8 @@ PathMap = Path → Option Leaf
 abbrev pub no_paths : PathMap
 no_paths q = None
 
--- Putting a leaf at a path takes away what stands above the path and below it, since a name is a leaf or a directory and never both. (git-fast-import(1), "filemodify")
+-- Putting a leaf at a path takes away what stands above the path and below it, since a name is a leaf or a directory
+-- and never both. (git-fast-import(1), "filemodify")
 abbrev pub put : PathMap → Path → Leaf → PathMap
 put m p leaf q = if path_eq p q then Some leaf else if leads_to p q || leads_to q p then None else m q
 
@@ -40,9 +41,12 @@ file_mode false = mode_of entry_kind.Blob
 
 -- what one edit makes of a map
 abbrev pub with_edit : HashKind → PathMap → PathEdit → PathMap
-with_edit hash m (File path bytes executable) = put m (components path) (record { mode = record { value = file_mode executable }; id = blob_id hash bytes })
-with_edit hash m (Link path bytes) = put m (components path) (record { mode = record { value = mode_of entry_kind.Link }; id = blob_id hash bytes })
-with_edit hash m (Module path id) = put m (components path) (record { mode = record { value = mode_of entry_kind.Commit }; id = id })
+with_edit hash m (File path bytes executable) = put m (components path)
+    (record { mode = record { value = file_mode executable }; id = blob_id hash bytes })
+with_edit hash m (Link path bytes) = put m (components path)
+    (record { mode = record { value = mode_of entry_kind.Link }; id = blob_id hash bytes })
+with_edit hash m (Module path id) = put m (components path)
+    (record { mode = record { value = mode_of entry_kind.Commit }; id = id })
 with_edit hash m (Remove path) = dropped m (components path)
 
 -- Edits are made one after another, each on what the ones before it left.

@@ -19,9 +19,11 @@ use Rattle.gx_edit.specs.declared.writing.plan.Plan.{Plan}
 
 -- ---- the leaves of a directory, in turn
 
+-- the row of a path below the directory of this name
 abbrev pub under : List ℕ → Path × Leaf → Path × Leaf
 under n row = (n ∷ row.0, row.1)
 
+-- each leaf with its path, in the order of the entries
 abbrev pub leaves_of : Directory → List (Path × Leaf)
 leaves_of End = []
 leaves_of (File n leaf rest) = (n ∷ [], leaf) ∷ leaves_of rest
@@ -29,9 +31,11 @@ leaves_of (Sub n inner rest) = map (under n) (leaves_of inner) ++ leaves_of rest
 
 -- ---- the rows of a map, below a directory whose path and slash take their first bytes
 
+-- one row, by the names of its path that come after those bytes
 abbrev pub row_at : ℕ → Row → Path × Leaf
 row_at at r = (components (drop at r.path.items), r.leaf)
 
+-- all rows so
 abbrev pub rows_at : ℕ → List Row → List (Path × Leaf)
 rows_at at rs = map (row_at at) rs
 
@@ -78,15 +82,19 @@ pub record Made : Type 0 where
   pub trees : List PlannedTree
   pub entries : List Entry
 
+-- what a plan in code has made
 abbrev pub made : Plan → Made
 made plan = record { trees = plan.trees.items; entries = plan.entries.items }
 
+-- the planned tree of an object
 abbrev pub planned : HashKind → Kind × List ℕ → PlannedTree
 planned hash tree = record { id = id_of hash tree; bytes = tree.1 }
 
+-- one tree more
 abbrev pub with_tree : PlannedTree → Made → Made
 with_tree tree m = record { trees = m.trees ++ tree ∷ []; entries = m.entries }
 
+-- one entry more
 abbrev pub with_entry : Entry → Made → Made
 with_entry entry m = record { trees = m.trees; entries = m.entries ++ entry ∷ [] }
 
@@ -94,6 +102,7 @@ with_entry entry m = record { trees = m.trees; entries = m.entries ++ entry ∷ 
 abbrev pub ArePlanned : HashKind → List PlannedTree → Type 0
 ArePlanned hash trees = AllByRecursion (λ tree. tree.id ≡ id_of hash (object_kind.Tree, tree.bytes)) trees
 
+-- planned trees as the objects that are stored
 abbrev pub objects_of : List PlannedTree → List (Kind × List ℕ)
 objects_of trees = map (λ tree. (object_kind.Tree, tree.bytes)) trees
 

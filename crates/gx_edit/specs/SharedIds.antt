@@ -18,9 +18,11 @@ HasIdsOf hash m = (p : Path) (leaf : Leaf) → m p ≡ Some leaf → id_from_byt
 
 -- No entry of the trees of the map has the null id. (git-fsck(1), "nullSha1")
 abbrev pub HasNoNullId : HashKind → PathMap → Type 0
-HasNoNullId hash m = (directory : Directory) → StandsFor directory m → AllByRecursion (λ (entry : Entry). entry.oid ≢ null_id (kind_of entry.oid)) (entries_within hash directory)
+HasNoNullId hash m = (directory : Directory) → StandsFor directory m
+    → AllByRecursion (λ (entry : Entry). entry.oid ≢ null_id (kind_of entry.oid)) (entries_within hash directory)
 
--- An object of the first list and a different one of the second have one id. Git rests on this not coming about. (hash-function-transition, "Background")
+-- An object of the first list and a different one of the second have one id. Git rests on this not coming about.
+-- (hash-function-transition, "Background")
 pub record ShareAnId (hash : HashKind) (objects others : List (Kind × List ℕ)) : Type 0 where
   pub one : Kind × List ℕ
   pub other : Kind × List ℕ

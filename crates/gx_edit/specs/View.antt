@@ -27,7 +27,8 @@ Names = FinMap name_cmp Item
 abbrev pub View : Type 0
 View = Path → Option Names
 
--- what the entries of a tree say of its names; of entries with one name the first counts
+-- What the entries of a tree say of its names. Of entries with one name the first counts.
+-- (gix, gix_object::tree::Editor)
 abbrev pub names_of : List Entry → Names
 names_of [] = empty
 names_of (entry ∷ entries) = insert (names_of entries) entry.filename (record { mode = entry.mode; id = entry.oid })
@@ -36,7 +37,7 @@ names_of (entry ∷ entries) = insert (names_of entries) entry.filename (record 
 abbrev pub item_of_kind : EntryKind → ObjectId → Item
 item_of_kind kind id = record { mode = record { value = mode_of kind }; id = id }
 
--- An item with the null id is a placeholder, which is not written.
+-- An item with the null id is a placeholder, which is not written. (gix, gix_object::tree::Editor)
 abbrev pub is_null : ObjectId → Bool
 is_null id = id_eq id (null_id (kind_of id))
 
@@ -73,7 +74,7 @@ abbrev pub with_below : View → List ℕ → View → View
 with_below v n w [] = v []
 with_below v n w (c ∷ q) = if bytes_eq n c then w q else v (c ∷ q)
 
--- the view without what is loaded at a name and below it
+-- The view without what is loaded at a name and below it. (gix, gix_object::tree::Editor)
 abbrev pub forgotten : View → List ℕ → View
 forgotten v n = with_below v n nothing_loaded
 
@@ -84,6 +85,13 @@ abbrev pub IsLoad : HashKind → Content → (ObjectId → Names) → Type 0
 IsLoad hash content load =
     (id : ObjectId) (bytes : List ℕ) (entries : List Entry) → lookup content id ≡ Some (kind.Tree, bytes)
     → SpellsTree hash bytes entries → load id ≡ names_of entries
+
+-- The id is that of a stored tree, whose bytes spell entries.
+pub record IsReadable (hash : HashKind) (content : Content) (id : ObjectId) : Type 0 where
+  pub bytes : List ℕ
+  pub entries : List Entry
+  pub stored : lookup content id ≡ Some (kind.Tree, bytes)
+  pub spelled : SpellsTree hash bytes entries
 
 -- what holds of whatever loads the trees, where the store tells what it holds
 abbrev pub WhereLoaded : StoreState → ((ObjectId → Names) → Type 0) → Type 0
@@ -120,13 +128,14 @@ module _ (hash : HashKind) (load : ObjectId → Names) where
   opened_along v (n ∷ d) = with_below (opened v n) n (opened_along (below (opened v n) n) d)
 
   -- The item is put at the path, in place of what stood there, and what was loaded there and below is forgotten. Each
-  -- directory on the way is loaded, and a leaf on the way becomes one.
+  -- directory on the way is loaded, and a leaf on the way becomes one. (git-fast-import(1), "filemodify")
   abbrev pub upserted : View → Path → Item → View
   upserted v [] item = v
   upserted v (n ∷ []) item = forgotten (with_root v (λ names. insert names n item)) n
   upserted v (n ∷ c ∷ p) item = with_below (opened v n) n (upserted (below (opened v n) n) (c ∷ p) item)
 
   -- What stands at the path goes, with all below it. Directories on the way are loaded as far as there are any.
+  -- (git-fast-import(1), "filedelete")
   abbrev pub removed : View → Path → View
   removed v [] = v
   removed v (n ∷ []) = forgotten (with_root v (λ names. remove names n)) n

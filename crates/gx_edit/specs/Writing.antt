@@ -26,8 +26,10 @@ AreSafe protect output = AllByRecursion (IsSafe protect) output.entries
 
 -- ---- what a call leaves
 
--- The trees were stored where they were absent, in their order, the answer is the root, and nothing else is changed. With protections, each entry passes them and names what is stored.
-pub record Writes (output : Output) (protect : Option Protect) (old : StoreState) (id : ObjectId) (new : StoreState) : Type 0 where
+-- The trees were stored where they were absent, in their order, the answer is the root, and nothing else is changed.
+-- With protections, each entry passes them and names what is stored.
+pub record Writes (output : Output) (protect : Option Protect) (old : StoreState) (id : ObjectId)
+    (new : StoreState) : Type 0 where
   pub is_root : id ≡ output.root
   pub becomes : Becomes (all_stored output.trees old) new
   pub safe : AreSafe protect output
@@ -38,7 +40,8 @@ pub record StoresTrees (output : Output) (protect : Option Protect) (old new : S
   pub becomes : Becomes (all_stored output.trees old) new
   pub safe : AreSafe protect output
 
--- The first of the trees were stored, and nothing else is changed. Where that is one tree or more, each entry of all the trees passes the protections.
+-- The first of the trees were stored, and nothing else is changed. Where that is one tree or more, each entry of all
+-- the trees passes the protections.
 pub record BeginsTrees (output : Output) (protect : Option Protect) (old new : StoreState) : Type 0 where
   pub first : List (Kind × List ℕ)
   pub rest : List (Kind × List ℕ)
@@ -54,20 +57,28 @@ pub record StopsInTrees (output : Output) (protect : Option Protect) (old new : 
 
 -- ---- causes
 
--- A store's fault names an object of an entry, no submodule, that was looked for once the trees were stored, or comes of the write of a tree.
+-- A store's fault names an object of an entry, no submodule, that was looked for once the trees were stored, or comes
+-- of the write of a tree.
 abbrev pub HasFault : Output → Option Protect → StoreState → StoreState → What → Type 0
-HasFault output protect old new (what.Object id) = IsSome protect × StoresTrees output protect old new × IsTrue (old.unreadable (what.Object id)) × SomeEntry output (λ entry. (entry.oid ≡ id) × (kind_of_mode entry.mode.value ≢ entry_kind.Commit))
+HasFault output protect old new (what.Object id) = IsSome protect × StoresTrees output protect old new
+    × IsTrue (old.unreadable (what.Object id))
+    × SomeEntry output (λ entry. (entry.oid ≡ id) × (kind_of_mode entry.mode.value ≢ entry_kind.Commit))
 HasFault output protect old new (what.Name name) = ⊥
 HasFault output protect old new what.Index = ⊥
 HasFault output protect old new what.Listing = ⊥
 HasFault output protect old new what.Write = StopsInTrees output protect old new × Rose old.faults new.faults
 
--- Why trees are not written, and what that leaves. A name that fails the protections is refused before anything is written. That an entry, no submodule, names nothing is seen once all trees are stored, since it may name one of them. Out of memory needs no cause.
+-- Why trees are not written, and what that leaves. A name that fails the protections is refused before anything is
+-- written. That an entry, no submodule, names nothing is seen once all trees are stored, since it may name one of them.
+-- Out of memory needs no cause.
 abbrev pub WriteCauses : Output → Option Protect → StoreState → StoreState → EditError → Type 0
 WriteCauses output protect old new (InvalidFilename filename kind id source) =
-    (new ≡ old) × SomeEntry output (λ entry. IsEntry entry filename kind id × IsSomeAnd protect (λ p. IsFirstViolated entry.filename (is_link entry) p source))
+    (new ≡ old) × SomeEntry output (λ entry. IsEntry entry filename kind id
+    × IsSomeAnd protect (λ p. IsFirstViolated entry.filename (is_link entry) p source))
 WriteCauses output protect old new (MissingObject filename kind id) =
-    IsSome protect × StoresTrees output protect old new × SomeEntry output (λ entry. IsEntry entry filename kind id × (kind ≢ entry_kind.Commit) × IfSome new.content (λ content. IsStored content id → ⊥))
+    IsSome protect × StoresTrees output protect old new
+    × SomeEntry output (λ entry. IsEntry entry filename kind id × (kind ≢ entry_kind.Commit)
+    × IfSome new.content (λ content. IsStored content id → ⊥))
 WriteCauses output protect old new (Store fault) = HasFault output protect old new fault
 WriteCauses output protect old new NoMemory = BeginsTrees output protect old new
 WriteCauses output protect old new _ = ⊥
@@ -84,11 +95,15 @@ pub record OfOutput (paths : PathList) (old : StoreState) (P : Output → Type 0
 abbrev pub WritesMap : PathList → Option Protect → StoreState → ObjectId → StoreState → Type 0
 WritesMap paths protect old id new = OfOutput paths old (λ output. Writes output protect old id new)
 
--- Where no two different objects share an id, and none has the null id, the root represents the map in what is stored then.
+-- Where no two different objects share an id, and none has the null id, the root represents the map in what is then
+-- stored with the trees.
 abbrev pub RepresentsMap : PathMap → StoreState → ObjectId → StoreState → Type 0
-RepresentsMap m old id new = (directory : Directory) → StandsFor directory m → IfSome old.content (λ before. AreApart old.hash before (trees_of old.hash directory) → IfSome new.content (λ after. Represents old.hash after id m))
+RepresentsMap m old id new = (directory : Directory) → StandsFor directory m
+    → IfSome old.content (λ before. AreApart old.hash before (trees_of old.hash directory)
+    → IfSome new.content (λ after. Represents old.hash after id m))
 
--- Why a map is not written, and what that leaves. A path with a zero byte is refused first, and nothing is written then.
+-- Why a map is not written, and what that leaves. A path with a zero byte is refused first, before anything is
+-- written or looked for.
 abbrev pub WriteMapCauses : PathList → Option Protect → StoreState → StoreState → EditError → Type 0
 WriteMapCauses paths protect old new (WriteObject field) = PlanCauses paths (WriteObject field) × (new ≡ old)
 WriteMapCauses paths protect old new error = OfOutput paths old (λ output. WriteCauses output protect old new error)

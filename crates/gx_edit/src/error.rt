@@ -27,6 +27,9 @@ pub enum EditError {
     Decode {
         id: ObjectId,
     },
+    /// A directory stands where a leaf was to be removed.
+    #[error("a directory is not removed as a leaf")]
+    IsTree,
     #[error("an entry must not be named {filename:?}: {source}")]
     InvalidFilename {
         filename: Bytes,

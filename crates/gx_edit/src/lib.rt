@@ -17,6 +17,7 @@ mod stored_tree;
 pub mod view_laws;
 mod writing;
 
+pub use editor::{Editor, EntryView};
 pub use error::EditError;
 pub use leaf::Leaf;
 pub use output::Output;

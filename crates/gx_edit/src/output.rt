@@ -40,7 +40,12 @@ impl Model for Output {
 
     ghost Value = { Output };
 
-    ghost view = { λ o. record { hash = o.hash; trees = objects_of o.trees.items; entries = o.entries.items; root = o.root } };
+    ghost view = { λ o. record {
+      hash = o.hash;
+      trees = objects_of o.trees.items;
+      entries = o.entries.items;
+      root = o.root;
+    } };
 
     ghost invariant = { λ o. ArePlanned o.hash o.trees.items };
 }
@@ -59,7 +64,12 @@ impl Output {
         root: ObjectId,
     ) -> Output
         requires { ArePlanned hash trees.items }
-        ensures { result ≡ record { hash = hash; trees = objects_of trees.items; entries = entries.items; root = root } }
+        ensures { result ≡ record {
+          hash = hash;
+          trees = objects_of trees.items;
+          entries = entries.items;
+          root = root;
+        } }
     {
         Output {
             hash,
@@ -101,7 +111,8 @@ impl Output {
     pub fn store<S: Objects>(&self, alloc: Global, store: &mut S) -> Result<(), StoreError>
         requires { self.now.hash ≡ (S.state store.old).hash }
         ensures ok { OnOk result (Becomes (all_stored self.now.trees (S.state store.old)) (S.state store.new)) }
-        ensures err { OnErr result ((n : ℕ) × (n < length self.now.trees) × Becomes (all_stored (take n self.now.trees) (S.state store.old)) (S.state store.new)) }
+        ensures leaves { OnErr result ((n : ℕ) × (n < length self.now.trees)
+            × Becomes (all_stored (take n self.now.trees) (S.state store.old)) (S.state store.new)) }
         ensures fault { IfFault result (HasCause (S.state store.old) (S.state store.new)) }
     {
         store_trees(alloc, store, &self.trees)

@@ -2,6 +2,7 @@
 
 ghost use Rattle.std.specs.Prelude.{◌≡◌, ◌+◌, ◌<◌, ◌==◌, ◌∷◌, [], length, take, drop, position, MatchOption};
 ghost use Rattle.gx_edit.specs.Path.{components};
+ghost use Rattle.gx_edit.specs.PathList.{has_empty_name};
 
 fn slash_at(path: &[u8]) -> Option<usize>
     ensures { result ≡ position (λ b. b == 47) path.now }
@@ -13,7 +14,8 @@ fn slash_at(path: &[u8]) -> Option<usize>
 #[tactic(auto, using(crate::proofs::ComponentLemmas::components_found))]
 fn first_slash(path: &[u8]) -> Option<usize>
     ensures { MatchOption result (components path.now ≡ path.now ∷ [])
-        (λ at. (at < length path.now) × (components path.now ≡ take at path.now ∷ components (drop (at + 1) path.now))) }
+        (λ at. (at < length path.now)
+        × (components path.now ≡ take at path.now ∷ components (drop (at + 1) path.now))) }
 {
     slash_at(path)
 }
@@ -29,4 +31,18 @@ pub(crate) fn split_first_name(path: &[u8]) -> Option<(&[u8], &[u8])>
         None => None,
         Some(at) => Some((&path[..at], &path[at + 1..])),
     }
+}
+
+/// Whether a name of the path is empty.
+pub(crate) fn has_empty_name(path: &[u8]) -> bool
+    ensures { result ≡ has_empty_name (components path.now) }
+{
+    let mut rest = path;
+    while let Some((name, below)) = split_first_name(rest) {
+        if name.is_empty() {
+            return true;
+        }
+        rest = below;
+    }
+    rest.is_empty()
 }

@@ -3,6 +3,7 @@
 mod entries;
 mod texts;
 
+use crate::path::has_empty_name;
 use crate::{EditError, Leaf};
 pub use entries::{PathEntries, PathEntry};
 use gx_hash::ObjectId;
@@ -102,12 +103,13 @@ impl PathMap {
     pub fn put(&mut self, path: &[u8], kind: EntryKind, id: ObjectId) -> Result<(), EditError>
         requires kind { kind ≢ entry_kind.Tree }
         requires id { id ≢ null_id (kind_of id) }
-        ensures ok { OnOk result ((q : Path) → map_of self.new q ≡ put (map_of self.old) (components path.now) (leaf_of kind id) q) }
+        ensures ok { OnOk result ((q : Path)
+            → map_of self.new q ≡ put (map_of self.old) (components path.now) (leaf_of kind id) q) }
         ensures err { OnErr result (self.new ≡ self.old) }
         ensures refused { IfErr result (Refused (components path.now)) }
         ensures named { OnOk result (has_empty_name (components path.now) ≡ false) }
     {
-        if texts::has_empty_name(path) {
+        if has_empty_name(path) {
             return Err(EditError::EmptyPathComponent);
         }
         texts::put(self.alloc, &mut self.leaves, path, Leaf::new(kind, id))?;
@@ -124,7 +126,7 @@ impl PathMap {
         ensures refused { IfErr result (Refused (components path.now)) }
         ensures named { OnOk result (has_empty_name (components path.now) ≡ false) }
     {
-        if texts::has_empty_name(path) {
+        if has_empty_name(path) {
             return Err(EditError::EmptyPathComponent);
         }
         texts::drop_path(self.alloc, &mut self.leaves, path)?;

@@ -1,6 +1,6 @@
 //! What an editor's view stands for, and what is written of it. The functions do nothing.
 
-ghost use Rattle.gx_edit.specs.LawsView.{LoadExists, RepresentedIsPlain, EditedIsPlain, WrittenPlainDirectory, EditedStands, EditedLoads, UpsertedLoads, RemovedLoads, WrittenInside, WrittenAsRead, EmptyStands, ReadStands, OpenedStands, UpsertedStands, RemovedStands, GrownStands, InsideStands, WrittenOnce, WrittenEntries, WrittenDirectory, WrittenRoot, RewrittenStands, WrittenRepresents, WrittenHasMap};
+ghost use Rattle.gx_edit.specs.LawsView.{LoadExists, RepresentedIsPlain, EditedIsPlain, WrittenPlainDirectory, EditedStands, EditedLoads, UpsertedLoads, RemovedLoads, WrittenInside, WrittenAsRead, EmptyStands, ReadStands, OpenedStands, UpsertedStands, RemovedStands, GrownStands, InsideStands, WrittenOnce, WrittenEntries, WrittenDirectory, WrittenRoot, RewrittenStands, WrittenRepresents, WrittenHasMap, WrittenEntriesStand, LoadedHasMap};
 
 /// What is stored can be loaded.
 pub fn load_exists()
@@ -39,7 +39,7 @@ pub fn upserted_view_loads()
     ensures { UpsertedLoads }
 {}
 
-/// And so it is where a path is removed.
+/// Where a path is removed, no directory comes to be loaded but those that lead to it.
 pub fn removed_view_loads()
     ensures { RemovedLoads }
 {}
@@ -49,7 +49,7 @@ pub fn edited_view_stands()
     ensures { EditedStands }
 {}
 
-/// And no directory comes to be loaded but those that lead to one of their paths.
+/// Where edits are made, no directory comes to be loaded but those that lead to one of their paths.
 pub fn edited_view_loads()
     ensures { EditedLoads }
 {}
@@ -62,6 +62,11 @@ pub fn grown_view_stands()
 /// The view of a loaded directory stands for what the map has below it.
 pub fn inner_view_stands()
     ensures { InsideStands }
+{}
+
+/// Where a view stands for a map, each tree that is loaded on the way to a path has a map.
+pub fn loaded_trees_have_maps()
+    ensures { LoadedHasMap }
 {}
 
 /// One list of entries is written of a view.
@@ -79,6 +84,12 @@ pub fn written_entries_are_the_inner_directory()
     ensures { WrittenInside }
 {}
 
+/// Each entry that is written of a view that stands for a map is that of a leaf of the map, or of a directory whose
+/// tree is written or stored.
+pub fn written_entries_stand()
+    ensures { WrittenEntriesStand }
+{}
+
 /// Where nothing is loaded below the root of a tree that has a map, the tree is written as it is.
 pub fn read_view_is_written_as_read()
     ensures { WrittenAsRead }
@@ -89,7 +100,7 @@ pub fn written_view_has_a_directory()
     ensures { WrittenDirectory }
 {}
 
-/// So it has where the names on the map's paths are plain, and all that is written can be spelled.
+/// Where the names on the map's paths are plain, and all that is written can be spelled, the map has a directory.
 pub fn spelled_view_has_a_directory()
     ensures { WrittenPlainDirectory }
 {}
@@ -99,7 +110,7 @@ pub fn represented_map_is_plain()
     ensures { RepresentedIsPlain }
 {}
 
-/// They stay so where edits are made whose paths have no empty name.
+/// The names on a map's paths stay plain where edits are made whose paths have no empty name.
 pub fn edited_map_is_plain()
     ensures { EditedIsPlain }
 {}
@@ -119,7 +130,8 @@ pub fn stored_output_represents()
     ensures { WrittenRepresents }
 {}
 
-/// Where objects are added, the trees among them, and no two share an id, the root has the map.
+/// Where objects are added, the trees among them, no two different ones share an id, and none has the null id, the root
+/// has the map.
 pub fn written_view_has_the_map()
     ensures { WrittenHasMap }
 {

@@ -4,7 +4,7 @@ mod groups;
 mod plan;
 mod rows;
 
-ghost use Rattle.std.specs.Prelude.{◌≡◌, IfOk, IfErr};
+ghost use Rattle.std.specs.Prelude.{IfOk, IfErr};
 ghost use Rattle.gx_edit.specs.PathList.{map_of};
 ghost use Rattle.gx_edit.specs.Writing.{WritesMap, RepresentsMap, WriteMapCauses};
 
@@ -60,6 +60,8 @@ pub fn write_plain<S: Objects>(
     ensures represents { IfOk result (λ id. RepresentsMap (map_of map.now) (S.state store.old) id (S.state store.new)) }
     ensures causes { IfErr result (WriteMapCauses map.now protect (S.state store.old) (S.state store.new)) }
 {
+    gx_store::laws::writing_adds();
+    gx_store::laws::added_is_found();
     let output = map.plan(alloc, store.hash_kind())?;
     output.write(alloc, store, protect)
 }

@@ -1,4 +1,4 @@
--- Ids as objects and scripts hold them: by their digits, in lower case.
+-- The digits of ids, in lower case, as objects and scripts contain them.
 use Rattle.std.specs.Prelude.{◌≡◌, ℕ, ◌*◌, ◌≤◌, ◌⊎◌, List, length, Ok}
 use Rattle.std.specs.List.{AllByRecursion}
 use Rattle.gx_hash.specs.declared.kind.HashKind.{HashKind}

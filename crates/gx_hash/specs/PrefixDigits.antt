@@ -22,7 +22,7 @@ length_error most found =
     else if nat_lt found 4 then Some (TooShort found)
     else None
 
--- how many digits the shortest kind of id has that has room for so many
+-- how many digits the shortest kind of id has that has room for this many
 abbrev pub room_for : ℕ → ℕ
 room_for found = if nat_le found 40 then 40 else 64
 

@@ -1,8 +1,8 @@
-//! Object ids: which digests there are, what an id is the digest of, and how ids are written and ordered.
+//! Object ids: how they are computed, written, read and ordered.
 //!
-//! An id is the digest of an object's kind, size and bytes. Both of Git's digests stand here, SHA-1 and
-//! SHA-256, and no crate above looks at which one it has: it passes a `HashKind` on.
-//! `Bytes`, the byte list of the engine's values, and `NoMemory` stand here too, since every crate uses them.
+//! An id is the SHA-1 or SHA-256 digest of an object's kind, size and bytes. Other crates work with either: they pass
+//! a `HashKind` on and never match on it. This crate also has `Bytes`, an owned list of bytes, and `NoMemory`, since
+//! every other crate uses them.
 #![tactic(auto)]
 
 mod bytes;

@@ -1,8 +1,8 @@
-//! The one error that has no cause.
+//! The error of running out of memory.
 use std::alloc::{AllocError, AllocFailed};
 use thiserror::Error;
 
-/// Memory ran out: the one refusal that needs no cause.
+/// Memory ran out. Any call that allocates may fail with it, and no clause says when.
 #[derive(Clone, Copy, Debug, PartialEq, Eq, Error)]
 #[error("out of memory")]
 pub struct NoMemory;

@@ -36,7 +36,7 @@ impl ObjectIds {
     /// Adds an id, which may be there already.
     pub fn insert(&mut self, id: ObjectId) -> Result<(), NoMemory>
         ensures ok { OnOk result ((one : ObjectId) → has_id self.new one ≡ (id_eq id one || has_id self.old one)) }
-        ensures err { OnErr result (self.new ≡ self.old) }
+        ensures leaves { OnErr result (self.new ≡ self.old) }
     {
         self.set.insert(id)?;
         Ok(())

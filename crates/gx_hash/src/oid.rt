@@ -35,6 +35,13 @@ const EMPTY_BLOB_SHA256: [u8; 32] = [
 ];
 
 /// The id of an object. Ids are ordered by kind, then by bytes.
+///
+/// ```
+/// let id = object_id(HashKind::Sha1, b"blob", b"hello world");
+/// let same = ObjectId::from_hex(b"95d09f2b10159347eece71399a7e2e907ea3df4f")?;
+/// let is_same = id == same;
+/// let digits = id.to_hex(alloc)?;
+/// ```
 #[derive(Clone, Copy, PartialEq, Eq, PartialOrd, Ord, Hash)]
 pub enum ObjectId {
     Sha1([u8; 20]),
@@ -44,7 +51,7 @@ pub enum ObjectId {
 /// Why a text is no id.
 #[derive(Clone, Copy, Debug, PartialEq, Eq, Error)]
 pub enum HexError {
-    /// No kind of id has so many digits.
+    /// No kind of id has this many digits.
     #[error("no id has {found} hex digits")]
     BadLength { found: usize },
     /// The first byte that is no hex digit.

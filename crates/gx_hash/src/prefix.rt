@@ -10,6 +10,12 @@ use std::fmt;
 use thiserror::Error;
 
 /// The first hex digits of an id, at least four.
+///
+/// ```
+/// let prefix = Prefix::from_hex(b"95d09f2")?;
+/// let begins_so = prefix.cmp_oid(&id) == Ordering::Equal;
+/// let shorter = Prefix::new(&id, 4)?;
+/// ```
 #[derive(Clone, Copy, Debug, PartialEq, Eq, Hash)]
 pub struct Prefix {
     /// The digits, with zeros after them.
@@ -149,7 +155,7 @@ fn read_padded(digits: &[u8]) -> Result<ObjectId, HexError>
     ObjectId::from_hex(&buffer[..room_for(digits.len())])
 }
 
-/// How many digits the shortest ids have that have at least so many.
+/// How many digits the shortest ids have that have at least this many.
 fn room_for(found: usize) -> usize
     requires { found ≤ 64 }
     ensures room { result ≡ room_for found }

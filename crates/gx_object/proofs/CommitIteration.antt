@@ -1,14 +1,14 @@
 -- An iterator over a commit gives its items by their number.
-use Rattle.std.proofs.Common.{◌≡◌, ◌≢◌, ◌∙◌, sym, ap, refl, subst, ℕ, zero, suc, ◌+◌, ◌-◌, ◌<◌, List, [], ◌∷◌, ◌++◌, length, drop, codes, arith, length-append, Option, Some, None, inl, inr, Ok, Err}
+use Rattle.std.proofs.Common.{◌≡◌, ◌≢◌, ◌∙◌, sym, ap, refl, subst, ℕ, zero, suc, ◌+◌, ◌-◌, ◌<◌, List, [], ◌∷◌, ◌++◌, length, drop, codes, arith, length-append, Some, inl, inr, Ok, Err}
 use Rattle.std.proofs.lemmas.List.{append-nil}
 use Rattle.gx_hash.specs.declared.kind.HashKind.{HashKind}
 use Rattle.gx_object.specs.declared.commit.iter.CommitToken.{CommitToken}
 use Rattle.gx_object.specs.declared.decode.DecodeError.{DecodeError}
 use Rattle.gx_object.specs.declared.decode.DecodeError.TheVariants.{Decode}
 use Rattle.gx_object.specs.CommitNext.{Next, Tree, Parents, Committer, Encoding, Headers, End, CommitPlace}
-use Rattle.gx_object.specs.CommitSpelling.{CommitText, SpellsCommit}
-use Rattle.gx_object.specs.PartsRead.{ObjectText, PartsRead, left_of}
-use Rattle.gx_object.specs.CommitItems.{Item, items_of, item_of, ItemAt, ReadsAll, Stuck, Given, EndsHeader, Left, LeftBehind, IsRefusal, HasKind, IsNext, StandsAt, EndsCommit, GoesWrongAfter, Tells, IsTold, GivesPart, parts_left, IsAt, given_at}
+use Rattle.gx_object.specs.CommitSpelling.{SpellsCommit}
+use Rattle.gx_object.specs.PartsRead.{PartsRead, left_of}
+use Rattle.gx_object.specs.CommitItems.{Item, items_of, item_of, ItemAt, ReadsAll, Stuck, Given, EndsHeader, Left, LeftBehind, IsRefusal, HasKind, IsNext, Tells, GivesPart, parts_left, IsAt, given_at}
 use Rattle.gx_object.proofs.IterLemmas.{next_some, next_none, header_length, line_length}
 use Rattle.gx_object.specs.Laws.OneCommit.{reads_commit}
 

@@ -16,7 +16,7 @@ use Rattle.gx_object.specs.CommitItems.{HasCommitter, SpellsMessage, SpellsNone,
 use Rattle.gx_object.specs.CommitSignature.{signature_name, IsOther, lines_to_end, HasSignature, HasNoSignature, IsSignature, IsUnsigned, IsSignedBy, TellsSignature, SpellsSome, RefusesCommit, MissesSignature, FirstNamed, PassesOthers}
 use Rattle.gx_object.proofs.CommitParts.{all_push}
 use Rattle.gx_object.specs.Laws.CommitPlace.{encoding_name}
-use Rattle.gx_object.proofs.CommitRefusals.{further}
+use Rattle.gx_object.proofs.CommitFronts.{further}
 use Rattle.gx_object.proofs.FieldLemmas.{author_and_rest}
 use Rattle.gx_object.specs.Laws.LineLemmas.{raw_line_open, without_append, name_without_newline}
 use Rattle.gx_object.specs.Laws.OneCommit.{first_line, header_in_front, no_header_here, open_folds, one_commit, one_header, one_who}

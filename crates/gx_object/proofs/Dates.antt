@@ -8,7 +8,7 @@ use Rattle.std.proofs.lemmas.Fmt.{IsAscii-from_digits}
 use Rattle.std.proofs.lemmas.Str.{IsUtf8-from_ascii}
 use Rattle.std.proofs.lemmas.Bool.{and_parts, not-true}
 use Rattle.std.proofs.lemmas.List.{take_at, drop_at, take-append-drop}
-use Rattle.gx_object.specs.TimeSpelling.{SpellsTwoDigits, SpellsSeconds, IsSignedBy, SpellsOffset, SpellsTime, seconds_text}
+use Rattle.gx_object.specs.TimeSpelling.{SpellsTwoDigits, SpellsSeconds, HasSign, SpellsOffset, SpellsTime, seconds_text}
 use Rattle.gx_object.specs.declared.signature.Time.{Time}
 use Rattle.gx_object.specs.Split.{Lacks}
 use Rattle.gx_object.specs.Laws.Splits.{cut_once, digits_lack, lacks_more}
@@ -39,7 +39,7 @@ no_minutes text sign hours minutes whole two none offset spelled =
     let same = (offset_parts text sign hours minutes offset whole two spelled).1 in none spelled.minutes (rw same spelled.minutes_spelled)
 
 -- the offset that a sign, hours and minutes make
-pub offset_by : (text : List ℕ) (sign : ℕ) (hours_text minutes_text : List ℕ) (hours minutes : ℕ) (offset : ℤ) → text ≡ sign ∷ hours_text ++ minutes_text → SpellsTwoDigits hours_text hours → SpellsTwoDigits minutes_text minutes → IsSignedBy sign (3600 * hours + 60 * minutes) offset → SpellsOffset text offset
+pub offset_by : (text : List ℕ) (sign : ℕ) (hours_text minutes_text : List ℕ) (hours minutes : ℕ) (offset : ℤ) → text ≡ sign ∷ hours_text ++ minutes_text → SpellsTwoDigits hours_text hours → SpellsTwoDigits minutes_text minutes → HasSign sign (3600 * hours + 60 * minutes) offset → SpellsOffset text offset
 offset_by text sign hours_text minutes_text hours minutes offset whole h m signed = record {
   sign = sign;
   hours_text = hours_text;

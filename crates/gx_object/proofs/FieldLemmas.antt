@@ -15,7 +15,7 @@ use Rattle.gx_object.specs.CommitLines.{IsNoIdLine, IsNoIdentityLine, HasIdentit
 use Rattle.gx_object.specs.CommitItems.{TreeId, AuthorIs, CommitterIs, HasIdLine, TreeFront, tree_front, author_front, committer_front, tree_items, author_items, StandsInFront, GoesWrong, GoesWrongByAuthor, GoesWrongByCommitter, HasAuthor, HasCommitter, SkipsParents}
 use Rattle.gx_object.proofs.CommitParts.{all_push, flat_map_push}
 use Rattle.gx_object.specs.Laws.CommitPlace.{leads_none, leads_to_author, leads_to_committer, stuck_tree, stuck_parents, stuck_committer, begins_tree, begins_parents, begins_committer, refused_at}
-use Rattle.gx_object.proofs.CommitRefusals.{further, with_author}
+use Rattle.gx_object.proofs.CommitFronts.{further, with_author}
 use Rattle.gx_object.specs.Laws.OneCommit.{one_id, one_who, no_parent_author}
 
 pub skips_more : (hash : HashKind) (bytes rest text more : List ℕ) → ((parents : List (List ℕ)) × AddsParents hash bytes parents rest) → HasIdLine hash (codes "parent ") rest text more → (parents : List (List ℕ)) × AddsParents hash bytes parents more

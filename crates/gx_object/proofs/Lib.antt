@@ -1,6 +1,6 @@
+pub mod CommitFronts
 pub mod CommitIteration
 pub mod CommitParts
-pub mod CommitRefusals
 pub mod CommitSignatures
 pub mod Dates
 pub mod FieldLemmas
@@ -14,6 +14,7 @@ pub mod OwnedCommits
 pub mod OwnedTags
 pub mod ParentLemmas
 pub mod ReadBack
+pub mod Refusals
 pub mod TagFields
 pub mod TagLineLemmas
 pub mod TagParts

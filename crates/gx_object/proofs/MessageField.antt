@@ -14,7 +14,7 @@ use Rattle.gx_object.specs.CommitLines.{HasHeader, HasHeaders, IsNoHeader, IsNot
 use Rattle.gx_object.specs.CommitItems.{committer_front, HasCommitter, SkipsHeaders, SkipsFurther, SpellsMessage, SpellsNone, GoesWrongByCommitter}
 use Rattle.gx_object.proofs.CommitParts.{encoded, not_encoded, all_push, flat_map_push}
 use Rattle.gx_object.specs.Laws.CommitPlace.{late_text, late_text_is, late_stage, leads_to_message, stuck_late, stage_is_late, late_is_not_end, begins_late, refused_at}
-use Rattle.gx_object.proofs.CommitRefusals.{further}
+use Rattle.gx_object.proofs.CommitFronts.{further}
 use Rattle.gx_object.specs.Laws.OneCommit.{one_commit}
 
 pub further_none : (bytes : List ℕ) → SkipsFurther bytes bytes

@@ -3,7 +3,7 @@ use Rattle.std.proofs.Common.{◌≡◌, ◌∙◌, sym, ap, subst, ℕ, ℤ, po
 use Rattle.std.specs.Str.Parse.{AllDigits, digits_value}
 use Rattle.std.proofs.lemmas.Str.Parse.{digit_from_value}
 use Rattle.gx_object.specs.declared.signature.Time.{Time}
-use Rattle.gx_object.specs.TimeSpelling.{SpellsTwoDigits, SpellsPlain, SpellsNegated, SpellsSeconds, IsSignedBy, SpellsOffset, SpellsTime}
+use Rattle.gx_object.specs.TimeSpelling.{SpellsTwoDigits, SpellsPlain, SpellsNegated, SpellsSeconds, HasSign, SpellsOffset, SpellsTime}
 use Rattle.gx_object.proofs.Dates.{offset_parts, seconds_lack, time_parts}
 
 no_sign : (text : List ℕ) (y z : ℤ) → SpellsPlain text y → SpellsNegated text z → ⊥
@@ -24,7 +24,7 @@ seconds_once text y z (_, inr p) (_, inr q) =
 two_once : (text other : List ℕ) (m n : ℕ) → text ≡ other → SpellsTwoDigits text m → SpellsTwoDigits other n → m ≡ n
 two_once text other m n e p q = sym p.1.1 ∙ ap (digits_value 10) e ∙ q.1.1
 
-signed_once : (sign other seconds others : ℕ) (y z : ℤ) → sign ≡ other → seconds ≡ others → IsSignedBy sign seconds y → IsSignedBy other others z → y ≡ z
+signed_once : (sign other seconds others : ℕ) (y z : ℤ) → sign ≡ other → seconds ≡ others → HasSign sign seconds y → HasSign other others z → y ≡ z
 signed_once sign other seconds others y z e f (inl p) (inl q) = p.1 ∙ ap pos f ∙ sym q.1
 signed_once sign other seconds others y z e f (inl p) (inr q) = absurd (omega (arith, e, p.0, q.0))
 signed_once sign other seconds others y z e f (inr p) (inl q) = absurd (omega (arith, e, p.0, q.0))

@@ -25,7 +25,7 @@ head_bytes tree parents author committer =
     id_line (codes "tree ") tree ++ flat_map (id_line (codes "parent ")) parents
     ++ identity_line (codes "author ") author ++ identity_line (codes "committer ") committer
 
--- a commit without an encoding and without further headers: an empty line parts its headers from its message
+-- a commit without an encoding and without further headers: an empty line separates its headers from its message
 unfoldable pub plain_commit_bytes : ObjectId → List ObjectId → Signature → Signature → List ℕ → List ℕ
 plain_commit_bytes tree parents author committer message = head_bytes tree parents author committer ++ 10 ∷ message
 

@@ -18,7 +18,7 @@ use Rattle.gx_object.specs.CommitSpelling.{HeaderText, CommitText, IsHeader, IsE
 use Rattle.gx_object.specs.Commit.{encoding_line}
 use Rattle.gx_object.specs.CommitLines.{HasLine, IsHeaderLine, HasIdentityLine, HasHeader, HasHeaders, AddsHeaders, HasParents, IsNoFold}
 
--- a part of a commit, as it stands in an object
+-- a part of a commit, as an object contains it
 pub data Item : Type 0 where
   TreeId : (id : List ℕ) → Item
   ParentId : (id : List ℕ) → Item
@@ -202,7 +202,7 @@ abbrev pub LeftBehind : List Item → Option (Result CommitToken DecodeError) �
 LeftBehind [] result new = (result ≡ None) × Left new []
 LeftBehind (i ∷ is) result new = (token : CommitToken) × (result ≡ Some (Ok token)) × (item_of token ≡ i) × Left new is
 
--- the bytes spell no commit, and go wrong where the iterator stands
+-- the bytes spell no commit, and go wrong where the iterator is
 abbrev pub IsRefusal : CommitPlace → DecodeError → Type 0
 IsRefusal place (Decode at) = IsNoCommit place.hash place.bytes at × (at + length place.rest ≡ length place.bytes)
 IsRefusal place NoMemory = ⊥
@@ -238,7 +238,7 @@ IsNext [] None after = after ≡ []
 IsNext (i ∷ is) (Some (Ok token)) after = (item_of token ≡ i) × (after ≡ is)
 IsNext items result after = ⊥
 
--- The bytes begin with lines of items, the last of which is this one, and n stand before it.
+-- The bytes begin with lines of items, the last of which is this one, and n are before it.
 pub record StandsAt (text : ObjectText) (n : ℕ) (i : Item) : Type 0 where
   pub stage : Next
   pub front : List ℕ
@@ -248,7 +248,7 @@ pub record StandsAt (text : ObjectText) (n : ℕ) (i : Item) : Type 0 where
   pub front_is : FrontIs text.hash stage front (before ++ i ∷ [])
   pub count : length before ≡ n
 
--- The bytes spell a commit whose items end with this one, and n stand before it.
+-- The bytes spell a commit whose items end with this one, and n are before it.
 pub record EndsCommit (text : ObjectText) (n : ℕ) (i : Item) : Type 0 where
   pub commit : CommitText
   pub spells : SpellsCommit text.hash text.bytes commit
@@ -266,7 +266,7 @@ pub record GoesWrongAfter (text : ObjectText) (n : ℕ) (e : DecodeError) : Type
   pub front_is : FrontIs text.hash stage front before
   pub count : length before ≡ n
 
--- the item stands in a line and more may come, or it is the last of a commit
+-- the item has a line and more may come, or it is the last of a commit
 abbrev pub Tells : ObjectText → ℕ → Item → Option ℕ → Type 0
 Tells text n i (Some given) = (given ≡ n + 1) × StandsAt text n i
 Tells text n i None = EndsCommit text n i
@@ -324,7 +324,7 @@ pub record StandsInFront (text : ObjectText) (i : Item) : Type 0 where
   pub whole : text.bytes ≡ front ++ rest
   pub front_is : FrontIs text.hash stage front (items ++ i ∷ [])
 
--- The bytes spell no commit, and go wrong after the lines that stand before this stage.
+-- The bytes spell no commit, and go wrong after the lines before this stage.
 pub record GoesWrong (text : ObjectText) (stage : Next) (e : DecodeError) : Type 0 where
   pub at : ℕ
   pub error : e ≡ Decode at
@@ -342,28 +342,28 @@ GoesWrongByAuthor text e = GoesWrong text Tree e ⊎ GoesWrong text Parents e
 abbrev pub GoesWrongByCommitter : ObjectText → DecodeError → Type 0
 GoesWrongByCommitter text e = GoesWrongByAuthor text e ⊎ GoesWrong text Committer e
 
--- the lines up to an author stand in front of the rest
+-- the lines up to an author are before the rest
 pub record HasAuthor (text : ObjectText) (who : IdentityText) (rest : List ℕ) : Type 0 where
   pub lines : AuthorFront text.hash
   pub whole : text.bytes ≡ author_front lines ++ rest
   pub who_is : lines.who ≡ who
 
--- the lines up to the committer stand in front of the rest
+-- the lines up to the committer are before the rest
 pub record HasCommitter (text : ObjectText) (who : IdentityText) (rest : List ℕ) : Type 0 where
   pub lines : CommitterFront text.hash
   pub whole : text.bytes ≡ committer_front lines ++ rest
   pub who_is : lines.who ≡ who
 
--- some parents stand in front, and no further one after them
+-- some parents come first, and no further one after them
 abbrev pub SkipsParents : HashKind → List ℕ → List ℕ → Type 0
 SkipsParents hash bytes rest = (parents : List (List ℕ)) × HasParents hash bytes parents rest
 
--- an encoding and headers stand in front, and no further one after them
+-- an encoding and headers come first, and no further one after them
 abbrev pub SkipsHeaders : List ℕ → List ℕ → Type 0
 SkipsHeaders bytes rest =
     (encoding : Option (List ℕ)) × (headers : List HeaderText) × HasHeaders bytes encoding headers rest
 
--- further headers stand in front
+-- further headers come first
 abbrev pub SkipsFurther : List ℕ → List ℕ → Type 0
 SkipsFurther bytes rest = (headers : List HeaderText) × AddsHeaders bytes [] headers rest
 

@@ -1,4 +1,4 @@
--- What stands at the front of bytes: a line, and which line of a commit.
+-- What is at the front of bytes: a line, and which line of a commit.
 use Rattle.std.specs.Prelude.{◌≡◌, ◌≢◌, ℕ, ◌⊎◌, List, [], ◌∷◌, ◌++◌, codes, Option, None}
 use Rattle.std.specs.List.{flat_map, AllByRecursion}
 use Rattle.gx_hash.specs.declared.kind.HashKind.{HashKind}
@@ -16,7 +16,7 @@ pub record HasLine (bytes line rest : List ℕ) : Type 0 where
   pub is : bytes ≡ line ++ 10 ∷ rest
   pub one : IsOneLine line
 
--- the bytes hold no whole line
+-- the bytes contain no whole line
 abbrev pub HasNoLine : List ℕ → Type 0
 HasNoLine bytes = (line rest : List ℕ) → HasLine bytes line rest → ⊥
 
@@ -36,7 +36,7 @@ abbrev pub IsNoIdentityLine : List ℕ → List ℕ → Type 0
 IsNoIdentityLine word bytes =
     (line rest : List ℕ) (who : IdentityText) → SpellsIdentity line who → HasLine bytes (word ++ line) rest → ⊥
 
--- the line begins a header: its name and a space stand in front
+-- the line begins a header: its name and a space come first
 abbrev pub IsHeaderLine : List ℕ → Type 0
 IsHeaderLine line = (name text : List ℕ) × IsHeaderName name × (line ≡ name ++ 32 ∷ text)
 

@@ -1,4 +1,4 @@
--- Where an iterator over a commit stands.
+-- Where an iterator over a commit is.
 use Rattle.std.specs.Prelude.{ℕ, List}
 use Rattle.gx_hash.specs.declared.kind.HashKind.{HashKind}
 use Rattle.gx_object.specs.declared.commit.iter.Stage.{Stage}
@@ -23,7 +23,7 @@ next_of stage.Encoding = Encoding
 next_of stage.Headers = Headers
 next_of stage.End = End
 
--- where an iterator stands: the bytes, what is left of them, and what comes next there
+-- where an iterator is: the bytes, what is left of them, and what comes next there
 pub record CommitPlace : Type 0 where
   pub hash : HashKind
   pub bytes : List ℕ

@@ -1,24 +1,23 @@
 -- How a commit is read.
-use Rattle.std.specs.Prelude.{◌≡◌, ◌≢◌, ℕ, ◌≤◌, ◌*◌, ◌⊎◌, List, [], ◌∷◌, ◌++◌, length, map, codes, Option, Some, None, Bool, false, ◌==◌, ◌&&◌, if◌then◌else◌}
+use Rattle.std.specs.Prelude.{◌≡◌, ◌≢◌, ℕ, ◌≤◌, ◌⊎◌, List, [], ◌∷◌, ◌++◌, length, map, codes, Option, Some, None, Bool, false, ◌==◌, ◌&&◌, if◌then◌else◌}
 use Rattle.std.specs.List.{flat_map, AllByRecursion}
 use Rattle.std.specs.Option.{option_map}
 use Rattle.bstr.specs.BStr.{bstr_bytes}
 use Rattle.gx_hash.specs.IdDigits.{IsHexId}
-use Rattle.gx_hash.specs.HashKind.{kind_of, len_in_bytes}
-use Rattle.gx_hash.specs.ObjectId.{hex_of}
-use Rattle.gx_hash.specs.declared.oid.ObjectId.{ObjectId}
 use Rattle.gx_hash.specs.declared.kind.HashKind.{HashKind}
+use Rattle.gx_object.specs.declared.decode.DecodeError.{DecodeError}
+use Rattle.gx_object.specs.declared.decode.DecodeError.TheVariants.{Decode, NoMemory}
 use Rattle.gx_object.specs.declared.commit.decode.ExtraHeader.{ExtraHeader}
 use Rattle.gx_object.specs.declared.commit.decode.CommitRef.{CommitRef}
 use Rattle.gx_object.specs.Commit.{folded_byte, encoding_line}
 use Rattle.gx_object.specs.IdentitySpelling.{IdentityText, identity_text, SpellsIdentity}
 
--- a further header, as it stands in an object
+-- a further header, as an object contains it
 pub record HeaderText : Type 0 where
   pub name : List ℕ
   pub raw : List ℕ
 
--- the parts of a commit, as they stand in an object
+-- the parts of a commit, as an object contains them
 pub record CommitText : Type 0 where
   pub tree : List ℕ
   pub parents : List (List ℕ)
@@ -57,7 +56,7 @@ IsEncoding text = (text ≢ []) × IsOneLine text
 abbrev pub IsHeaderName : List ℕ → Type 0
 IsHeaderName name = (name ≢ []) × AllByRecursion (λ b. (b ≢ 32) × (b ≢ 10)) name
 
--- a value as it stands in an object: a space follows each of its newlines (Git,
+-- a value as an object contains it: a space follows each of its newlines (Git,
 -- gitformat-signature, "Commit signatures")
 abbrev pub folded : List ℕ → List ℕ
 folded value = flat_map folded_byte value
@@ -66,12 +65,12 @@ folded value = flat_map folded_byte value
 abbrev pub IsHeader : HeaderText → Type 0
 IsHeader h = IsHeaderName h.name × ((value : List ℕ) × (h.raw ≡ folded value))
 
--- the header stands in one line, as an encoding does
+-- the header is one line, as an encoding is
 abbrev pub IsEncodingHeader : HeaderText → Type 0
 IsEncodingHeader h = (h.name ≡ codes "encoding") × IsEncoding h.raw
 
 -- The first header after the committer is the encoding, if it is spelled as one. (Ours: Git reads the first such
--- header, wherever it stands)
+-- header, wherever it is)
 abbrev pub HasEncoding : Option (List ℕ) → List HeaderText → Type 0
 HasEncoding (Some text) headers = IsEncoding text
 HasEncoding None [] = Unit {0}
@@ -81,7 +80,7 @@ HasEncoding None (h ∷ headers) = IsEncodingHeader h → ⊥
 abbrev pub text_line : List ℕ → List ℕ → List ℕ
 text_line word text = word ++ (text ++ 10 ∷ [])
 
--- the lines of a header, as they stand in an object
+-- the lines of a header, as an object contains them
 abbrev pub raw_line : HeaderText → List ℕ
 raw_line h = h.name ++ (32 ∷ h.raw ++ 10 ∷ [])
 
@@ -129,6 +128,11 @@ pub record IsNoCommit (hash : HashKind) (bytes : List ℕ) (at : ℕ) : Type 0 w
   pub place : at ≡ length front
   pub good : BeginsWith hash bytes front
   pub longest : (other : List ℕ) → BeginsWith hash bytes other → length other ≤ length front
+
+-- Why bytes are not read as a commit: they spell none, and go wrong at the place; or they are one, and memory ran out.
+abbrev pub CommitCauses : HashKind → List ℕ → DecodeError → Type 0
+CommitCauses hash bytes (Decode at) = IsNoCommit hash bytes at
+CommitCauses hash bytes NoMemory = (c : CommitText) × SpellsCommit hash bytes c
 
 -- a text without the one space after each newline; the flag tells whether it follows one
 abbrev pub unfolded_behind : Bool → List ℕ → List ℕ

@@ -30,7 +30,7 @@ time_bytes time = signed_decimal time.seconds ++ 32 ∷ offset_bytes time.offset
 unfoldable pub identity_bytes : Signature → List ℕ
 identity_bytes who = who.name ++ codes " <" ++ who.email ++ codes "> " ++ time_bytes who.time
 
--- `<`, `>` and newlines part the fields of an identity, so neither a name nor an email has them. (Git, git-commit,
+-- `<`, `>` and newlines separate the fields of an identity, so neither a name nor an email has them. (Git, git-commit,
 -- "Commit Information")
 abbrev pub is_writable_text : List ℕ → Bool
 is_writable_text text = list_all (λ b. not (b == 60) && not (b == 62) && not (b == 10)) text

@@ -4,7 +4,7 @@ use Rattle.bstr.specs.BStr.{bstr_bytes}
 use Rattle.gx_object.specs.declared.signature.decode.SignatureRef.{SignatureRef}
 use Rattle.gx_object.specs.Message.{trim_start, trim_end}
 
--- the parts of an identity, as they stand in an object
+-- the parts of an identity, as an object contains them
 pub record IdentityText : Type 0 where
   pub name : List ℕ
   pub email : List ℕ
@@ -24,7 +24,7 @@ DropsSpaceInFront text kept = (text ≡ 32 ∷ kept) ⊎ ((text ≡ kept) × ((m
 
 -- An identity is a name, an email in brackets and a time: the first `<` opens the brackets, and the last `>`, which
 -- follows it, closes them. One space at the name's end, and one in front of the time, belong to neither. (Git,
--- git-fast-import, "committer"; that brackets may stand within the email is ours)
+-- git-fast-import, "committer"; that the email may contain brackets is ours)
 pub record SpellsIdentity (line : List ℕ) (who : IdentityText) : Type 0 where
   pub before : List ℕ
   pub behind : List ℕ

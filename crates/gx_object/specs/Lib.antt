@@ -14,6 +14,7 @@ pub mod Mode
 pub mod OwnedCommit
 pub mod OwnedTag
 pub mod ParentIds
+pub mod ParentReach
 pub mod PartsRead
 pub mod Split
 pub mod Tag
@@ -25,5 +26,6 @@ pub mod TagStages
 pub mod TimeSpelling
 pub mod Tree
 pub mod TreeIter
+pub mod TreeReach
 pub mod TreeSpelling
 pub mod WrittenText

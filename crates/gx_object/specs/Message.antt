@@ -19,11 +19,11 @@ trim_start text = drop (position_or_len is_no_space text) text
 abbrev pub trim_end : List ℕ → List ℕ
 trim_end text = take (length text - position_or_len is_no_space (reverse text)) text
 
--- where the first two adjacent newlines stand
+-- where the first two adjacent newlines are
 abbrev pub blank_line : List ℕ → Option ℕ
 blank_line message = position (λ pair. pair.0 == 10 && pair.1 == 10) (zip message (drop 1 message))
 
--- what stands before the empty line, if there is one
+-- what is before the empty line, if there is one
 abbrev pub title_at : List ℕ → Option ℕ → List ℕ
 title_at message None = message
 title_at message (Some at) = take at message
@@ -37,7 +37,7 @@ abbrev pub body_at : List ℕ → Option ℕ → Option (List ℕ)
 body_at message None = None
 body_at message (Some at) = unless_empty (drop (at + 2) message)
 
--- The title of a message is what stands before the first empty line, or the whole message where there is none.
+-- The title of a message is what is before the first empty line, or the whole message where there is none.
 -- (gix_object::commit::message; Git's title goes up to the first line of white space: git-commit, "Discussion")
 abbrev pub title_of : List ℕ → List ℕ
 title_of message = title_at message (blank_line message)

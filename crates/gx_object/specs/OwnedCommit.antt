@@ -4,11 +4,8 @@ use Rattle.std.specs.List.{AllByRecursion}
 use Rattle.gx_hash.specs.declared.kind.HashKind.{HashKind}
 use Rattle.gx_hash.specs.HashKind.{IsOfKind}
 use Rattle.gx_hash.specs.ObjectId.{hex_of}
-use Rattle.gx_object.specs.declared.signature.Time.{Time}
 use Rattle.gx_object.specs.declared.commit.Commit.{Commit}
 use Rattle.gx_object.specs.declared.commit.OwnedHeader.{OwnedHeader}
-use Rattle.gx_object.specs.IdentitySpelling.{IdentityText}
-use Rattle.gx_object.specs.TimeSpelling.{SpellsTime}
 use Rattle.gx_object.specs.OwnedTag.{OwnsIdentity}
 use Rattle.gx_hash.specs.IdDigits.{IsHexId}
 use Rattle.gx_object.specs.CommitSpelling.{CommitText, HeaderText, unfolded}
@@ -26,10 +23,6 @@ HasIds c = (hash : HashKind) × HasIdsOf hash c
 pub record IsOfHash (hash : HashKind) (c : Commit) : Type 0 where
   pub tree : IsOfKind hash c.tree
   pub parents : AllByRecursion (IsOfKind hash) c.parents
-
--- the identity's time spells none
-abbrev pub HasNoTime : IdentityText → Type 0
-HasNoTime text = (time : Time) → ¬ SpellsTime text.time time
 
 -- the header with its value as it is meant
 abbrev pub owned_header : HeaderText → OwnedHeader

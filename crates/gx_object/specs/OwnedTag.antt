@@ -20,6 +20,10 @@ pub record OwnsIdentity (text : IdentityText) (owned : Signature) : Type 0 where
   pub email : owned.email ≡ text.email
   pub time : SpellsTime text.time owned.time
 
+-- the text of an identity's time is none
+abbrev pub HasNoTime : IdentityText → Type 0
+HasNoTime text = (time : Time) → ¬ SpellsTime text.time time
+
 -- the same of a tagger, where there is one
 abbrev pub OwnsTagger : Option IdentityText → Option Signature → Type 0
 OwnsTagger None None = Unit {0}
@@ -29,7 +33,7 @@ OwnsTagger text owned = ⊥
 -- the tagger's time is none
 abbrev pub HasBadTime : Option IdentityText → Type 0
 HasBadTime None = ⊥
-HasBadTime (Some text) = (time : Time) → ¬ SpellsTime text.time time
+HasBadTime (Some text) = HasNoTime text
 
 -- each part of the tag is what its text spells
 pub record OwnsTag (text : TagText) (owned : Tag) : Type 0 where

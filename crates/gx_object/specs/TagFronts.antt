@@ -32,16 +32,16 @@ next_of stage.End = End
 abbrev pub HasTarget : HashKind → List ℕ → List ℕ → List ℕ → Type 0
 HasTarget hash bytes target rest = IsHexId hash target × (bytes ≡ text_line (codes "object ") target ++ rest)
 
--- the lines of target and kind stand in front of the rest
+-- the lines of target and kind are before the rest
 abbrev pub HasTargetKind : HashKind → List ℕ → List ℕ → Kind → List ℕ → Type 0
 HasTargetKind hash bytes target kind rest = (r : List ℕ) × HasTarget hash bytes target r × HasTypeLine r kind rest
 
--- the lines of target, kind and name stand in front of the rest
+-- the lines of target, kind and name are before the rest
 abbrev pub HasName : HashKind → List ℕ → List ℕ → Kind → List ℕ → List ℕ → Type 0
 HasName hash bytes target kind name rest =
     (r : List ℕ) × HasTargetKind hash bytes target kind r × HasNameLine r name rest
 
--- the lines up to the tagger stand in front of the rest
+-- the lines up to the tagger are before the rest
 abbrev pub HasTagger : HashKind → List ℕ → List ℕ → Kind → List ℕ → IdentityText → List ℕ → Type 0
 HasTagger hash bytes target kind name who rest =
     (r : List ℕ) × HasName hash bytes target kind name r × HasIdentityLine (codes "tagger ") r who rest

@@ -18,7 +18,7 @@ use Rattle.gx_object.specs.PartsRead.{PartsRead, left_of}
 use Rattle.gx_object.specs.TagFronts.{Next, Target, TargetKind, Name, Tagger, Body, End}
 use Rattle.gx_object.specs.TagSpelling.{TagText, IsTagName, SpellsTagger, SpellsTag, IsNoTag}
 
--- a part of a tag, as it stands in an object
+-- a part of a tag, as an object contains it
 pub data Item : Type 0 where
   TargetIs : (id : List ℕ) → Item
   TargetKindIs : (kind : Kind) → Item
@@ -59,7 +59,7 @@ AreLines hash n text [] = text ≡ []
 AreLines hash n text (i ∷ is) =
     (line rest : List ℕ) × (text ≡ line ++ rest) × IsLine hash n line i × AreLines hash (n + 1) rest is
 
--- The bytes begin with lines, the last of which has this item, and n stand before it.
+-- The bytes begin with lines, the last of which has this item, and n are before it.
 pub record StandsInFront (hash : HashKind) (bytes : List ℕ) (n : ℕ) (i : Item) : Type 0 where
   pub front : List ℕ
   pub rest : List ℕ
@@ -68,7 +68,7 @@ pub record StandsInFront (hash : HashKind) (bytes : List ℕ) (n : ℕ) (i : Ite
   pub lines : AreLines hash 0 front (before ++ i ∷ [])
   pub count : length before ≡ n
 
--- The bytes spell a tag whose items end with this one, and n stand before it.
+-- The bytes spell a tag whose items end with this one, and n are before it.
 pub record EndsTag (hash : HashKind) (bytes : List ℕ) (n : ℕ) (i : Item) : Type 0 where
   pub tag : TagText
   pub spells : SpellsTag hash bytes tag
@@ -83,7 +83,7 @@ given_at Tagger = Some 3
 given_at Body = Some 4
 given_at End = None
 
--- the item stands in a line, or it is the body, after which nothing comes
+-- the item has a line, or it is the body, after which nothing comes
 abbrev pub Tells : HashKind → List ℕ → ℕ → Item → Option ℕ → Type 0
 Tells hash bytes n (BodyIs message signature) given = EndsTag hash bytes n (BodyIs message signature) × (given ≡ None)
 Tells hash bytes n i given = StandsInFront hash bytes n i × (given ≡ Some (n + 1))
@@ -101,12 +101,12 @@ pub record GoesWrong (hash : HashKind) (bytes : List ℕ) (n : ℕ) (error : Dec
   pub count : length before ≡ n
   pub place : at ≡ length front
 
--- who made the tag stands in its line, or the bytes spell a tag that doesn't tell it
+-- who made the tag is in its line, or the bytes spell a tag that doesn't tell it
 abbrev pub TellsTagger : HashKind → List ℕ → Option IdentityText → Type 0
 TellsTagger hash bytes (Some who) = StandsInFront hash bytes 3 (TaggerIs who)
 TellsTagger hash bytes None = (t : TagText) × SpellsTag hash bytes t × (t.tagger ≡ None)
 
--- The bytes go wrong after no more lines than stand before a tagger.
+-- The bytes go wrong after no more lines than are before a tagger.
 abbrev pub GoesWrongByTagger : HashKind → List ℕ → DecodeError → Type 0
 GoesWrongByTagger hash bytes error = (n : ℕ) × (n ≤ 3) × GoesWrong hash bytes n error
 

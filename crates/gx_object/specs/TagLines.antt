@@ -1,4 +1,4 @@
--- What stands at the front of bytes: which line of a tag.
+-- What is at the front of bytes: which line of a tag.
 use Rattle.std.specs.Prelude.{◌≡◌, ◌≢◌, ℕ, ◌≤◌, ◌<◌, List, [], ◌∷◌, ◌++◌, length, codes, Option, Some, None}
 use Rattle.gx_object.specs.declared.kind.Kind.{Kind}
 use Rattle.gx_object.specs.Kind.{kind_name}

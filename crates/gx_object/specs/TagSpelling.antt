@@ -12,7 +12,7 @@ use Rattle.gx_object.specs.IdentitySpelling.{IdentityText, identity_text, Spells
 use Rattle.gx_hash.specs.IdDigits.{IsHexId}
 use Rattle.gx_object.specs.CommitSpelling.{IsOneLine, IsWholeLines, text_line}
 
--- the parts of a tag, as they stand in an object
+-- the parts of a tag, as an object contains them
 pub record TagText : Type 0 where
   pub target : List ℕ
   pub target_kind : Kind
@@ -68,7 +68,7 @@ SplitsSignature text message None = (text ≡ message) × ((front rest : List �
 SplitsSignature text message (Some signature) =
     SignedAt text message signature × ((front rest : List ℕ) → SignedAt text front rest → length front ≤ length message)
 
--- an empty line and what it parts from the headers; or nothing, which is read as an empty message (Ours: Git writes
+-- an empty line and what follows it; or nothing, which is read as an empty message (Ours: Git writes
 -- the empty line)
 abbrev pub SpellsBody : List ℕ → List ℕ → Option (List ℕ) → Type 0
 SpellsBody body message signature =

@@ -37,7 +37,7 @@ NoItemAt hash Tagger rest = IsNoIdentityLine (codes "tagger ") rest × IsNoBody 
 NoItemAt hash Body rest = IsNoBody rest
 NoItemAt hash End rest = Unit {0}
 
--- the lines up to a tagger stand in front, or the bytes spell a tag without one
+-- the lines up to a tagger come first, or the bytes spell a tag without one
 abbrev pub FindsTagger : HashKind → List ℕ → Option IdentityText → Type 0
 FindsTagger hash bytes (Some who) =
     (target : List ℕ) × (kind : Kind) × (name rest : List ℕ) × HasTagger hash bytes target kind name who rest

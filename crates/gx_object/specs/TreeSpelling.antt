@@ -4,6 +4,8 @@ use Rattle.std.specs.List.{AllZip, concat}
 use Rattle.gx_hash.specs.declared.kind.HashKind.{HashKind}
 use Rattle.gx_hash.specs.ObjectId.{bytes_of, id_from_bytes}
 use Rattle.bstr.specs.BStr.{bstr_bytes}
+use Rattle.gx_object.specs.declared.decode.DecodeError.{DecodeError}
+use Rattle.gx_object.specs.declared.decode.DecodeError.TheVariants.{Decode, NoMemory}
 use Rattle.gx_object.specs.declared.tree.Entry.{Entry}
 use Rattle.gx_object.specs.declared.tree.decode.EntryRef.{EntryRef}
 use Rattle.gx_object.specs.TimeSpelling.{SpellsNumber}
@@ -47,6 +49,11 @@ pub record IsBadPlace (hash : HashKind) (bytes : List ℕ) (at : ℕ) : Type 0 w
   pub before : List Entry
   pub reads : ReadsUpTo hash bytes before at
   pub more : at < length bytes
+
+-- Why bytes are not read as a tree: they are none, and go wrong at the place; or they are one, and memory ran out.
+abbrev pub TreeCauses : HashKind → List ℕ → DecodeError → Type 0
+TreeCauses hash bytes (Decode at) = IsBadPlace hash bytes at
+TreeCauses hash bytes NoMemory = (entries : List Entry) × SpellsTree hash bytes entries
 
 -- the entry that the bytes begin with, and what follows it
 abbrev pub BeginsWithEntry : HashKind → List ℕ → Entry → List ℕ → Type 0

@@ -27,6 +27,12 @@ pub struct OwnedHeader {
 }
 
 /// A commit.
+///
+/// ```
+/// let bytes = commit.to_bytes(alloc)?;
+/// let id = object_id(HashKind::Sha1, commit.kind().as_bytes(), bytes.as_slice());
+/// let same = CommitRef::from_bytes(alloc, bytes.as_slice(), HashKind::Sha1)?.to_owned(alloc)?;
+/// ```
 #[derive(Debug, Drop)]
 pub struct Commit {
     pub tree: ObjectId,

@@ -12,7 +12,7 @@ pub enum Kind {
 }
 
 impl Kind {
-    /// The kind's name, as it stands in an object's header.
+    /// The kind's name, as an object's header has it.
     pub fn as_bytes(self) -> &'static [u8]
         ensures { result.now ≡ kind_name self }
     {

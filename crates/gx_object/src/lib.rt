@@ -1,6 +1,7 @@
-//! Git's objects as values, and the bytes that spell them.
+//! Git's objects, and how they are read from bytes and written to bytes.
 //!
-//! A value has one written spelling; `to_bytes` gives it, or names a field that no spelling can hold.
+//! `to_bytes` gives the one way in which a value is written, or names a field that can't be written. `from_bytes` reads
+//! all that Git writes, and names the first place where other bytes go wrong.
 #![tactic(auto)]
 
 mod blob;

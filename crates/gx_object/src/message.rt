@@ -73,7 +73,7 @@ fn push_joined_lines(out: &mut Vec<u8>, text: &[u8]) -> Result<(), AllocError>
     ensures { OnOk result (out.new.items ≡ out.old.items ++ joined_lines text.now) }
 {
     let mut rest = text;
-    while let Some((line, after)) = split_line(rest) {
+    while let Some((line, after)) = split_joined(rest) {
         out.extend_from_slice(trim_end(line))?;
         out.push(b' ')?;
         rest = after;
@@ -83,7 +83,7 @@ fn push_joined_lines(out: &mut Vec<u8>, text: &[u8]) -> Result<(), AllocError>
 
 // The first line and what follows its newline, where there is one.
 #[tactic(auto, using(crate::proofs::TitleLines::joined_found, crate::proofs::TitleLines::joined_missed))]
-fn split_line(text: &[u8]) -> Option<(&[u8], &[u8])>
+fn split_joined(text: &[u8]) -> Option<(&[u8], &[u8])>
     ensures { MatchOption result (joined_lines text.now ≡ trim_end text.now)
         (λ parts. (joined_lines text.now ≡ trim_end parts.0.now ++ (32 ∷ joined_lines parts.1.now))
         × (length parts.1.now < length text.now)) }
@@ -101,7 +101,7 @@ fn first_newline(text: &[u8]) -> Option<usize>
     text.iter().position(|b| *b == b'\n')
 }
 
-// Where the first of two adjacent newlines stands.
+// Where the first of two adjacent newlines is.
 fn blank_line(message: &[u8]) -> Option<usize>
     ensures at { result ≡ blank_line message.now }
     ensures within { IfSome result (λ at. at + 2 ≤ length message.now) }

@@ -12,7 +12,7 @@ use gx_hash::{Bytes, NoMemory};
 pub(crate) use write::{can_write_offset, can_write_text};
 pub use write::{is_writable_identity, push_identity, unwritable_identity};
 
-/// A moment, and how far ahead of UTC the clock stood that told it.
+/// A moment, and how far ahead of UTC the clock was that told it.
 #[derive(Clone, Copy, Debug, PartialEq, Eq)]
 pub struct Time {
     /// Seconds since the Unix epoch.

@@ -4,7 +4,7 @@ ghost use Rattle.gx_object.specs.Split.{Lacks};
 
 use memchr::memchr;
 
-/// What stands in front of the first such byte, and what follows it.
+/// What is before the first such byte, and what follows it.
 pub(crate) fn split_at_byte(byte: u8, text: &[u8]) -> Option<(&[u8], &[u8])>
     ensures { MatchOption result (Lacks byte text.now) (λ parts. (text.now ≡ parts.0.now ++ byte ∷ parts.1.now)
         × Lacks byte parts.0.now) }

@@ -18,30 +18,27 @@ const NOW: Time = Time {
 };
 
 /// The answers to rows on dates, personas and mailmaps.
-pub fn answer(
-    alloc: Global,
-    call: &[u8],
-    fields: &[Vec<u8>],
-) -> Result<Option<Vec<u8>>, ProbeError> {
+pub fn answer(alloc: Global, call: &str, fields: &[Vec<u8>]) -> Result<Vec<u8>, ProbeError> {
     match call {
-        b"date" => Ok(Some(answer_date(alloc, fields)?)),
-        b"committer" | b"author" => answer_persona(alloc, call, fields, true),
-        b"committer_untimed" => answer_persona(alloc, b"committer", fields, false),
-        b"author_untimed" => answer_persona(alloc, b"author", fields, false),
+        "date" => answer_date(alloc, fields),
+        "committer" => committer(alloc, &personas_in(alloc, fields)?),
+        "author" => author(alloc, &personas_in(alloc, fields)?),
+        "committer_untimed" => committer(alloc, &untimed_in(alloc, fields)?),
+        "author_untimed" => author(alloc, &untimed_in(alloc, fields)?),
         _ => answer_on_mailmaps(alloc, call, fields),
     }
 }
 
 fn answer_on_mailmaps(
     alloc: Global,
-    call: &[u8],
+    call: &str,
     fields: &[Vec<u8>],
-) -> Result<Option<Vec<u8>>, ProbeError> {
+) -> Result<Vec<u8>, ProbeError> {
     match call {
-        b"mailmap" => Ok(Some(answer_mailmap(alloc, fields)?)),
-        b"merged" => answer_merged(alloc, fields),
-        b"mailmap_entries" => Ok(Some(answer_entries(alloc, fields)?)),
-        _ => Ok(None),
+        "mailmap" => answer_mailmap(alloc, fields),
+        "merged" => answer_merged(alloc, fields),
+        "mailmap_entries" => answer_entries(alloc, fields),
+        _ => Err(ProbeError::UnknownCall),
     }
 }
 
@@ -60,28 +57,17 @@ fn shown_time(alloc: Global, time: Time) -> Result<Vec<u8>, ProbeError> {
     Ok(format!(in alloc; "{seconds} {offset}")?.into_bytes())
 }
 
-/// The persona of settings whose names and texts stand by turns, or of ones whose time is taken away.
-fn answer_persona(
-    alloc: Global,
-    call: &[u8],
-    texts: &[Vec<u8>],
-    timed: bool,
-) -> Result<Option<Vec<u8>>, ProbeError> {
-    let Some(settings) = read_settings(alloc, texts)? else {
-        return Ok(None);
-    };
-    let mut personas = Personas::from_settings(alloc, &settings, NOW)?;
-    if !timed {
-        personas.committer.time = None;
-        personas.author.time = None;
+fn committer(alloc: Global, personas: &Personas) -> Result<Vec<u8>, ProbeError> {
+    match committer_of(personas) {
+        Some(who) => shown_persona(alloc, &who),
+        None => word(alloc, "none"),
     }
-    let found = match call {
-        b"committer" => committer_of(&personas),
-        _ => author_of(&personas),
-    };
-    match found {
-        Some(who) => Ok(Some(shown_persona(alloc, &who)?)),
-        None => Ok(Some(word(alloc, "none")?)),
+}
+
+fn author(alloc: Global, personas: &Personas) -> Result<Vec<u8>, ProbeError> {
+    match author_of(personas) {
+        Some(who) => shown_persona(alloc, &who),
+        None => word(alloc, "none"),
     }
 }
 
@@ -96,17 +82,36 @@ fn shown_persona(alloc: Global, who: &IdentityRef<'_>) -> Result<Vec<u8>, ProbeE
     Ok(answer)
 }
 
-fn read_settings(alloc: Global, texts: &[Vec<u8>]) -> Result<Option<PersonaSettings>, NoMemory> {
+/// The personas of settings whose names and texts stand by turns.
+fn personas_in(alloc: Global, fields: &[Vec<u8>]) -> Result<Personas, ProbeError> {
     let mut settings = no_settings();
-    for pair in texts.chunks(2) {
+    set_all(alloc, &mut settings, fields)?;
+    Ok(Personas::from_settings(alloc, &settings, NOW)?)
+}
+
+/// Such personas, whose times are taken away.
+fn untimed_in(alloc: Global, fields: &[Vec<u8>]) -> Result<Personas, ProbeError> {
+    let mut personas = personas_in(alloc, fields)?;
+    personas.committer.time = None;
+    personas.author.time = None;
+    Ok(personas)
+}
+
+fn set_all(
+    alloc: Global,
+    settings: &mut PersonaSettings,
+    fields: &[Vec<u8>],
+) -> Result<(), ProbeError> {
+    for pair in fields.chunks(2) {
         let [name, text] = pair else {
-            return Ok(None);
+            return Err(ProbeError::UnknownCall);
         };
-        if !set(&mut settings, name, Bytes::from_slice(alloc, text)?) {
-            return Ok(None);
-        }
+        let Ok(name) = str::from_utf8(name) else {
+            return Err(ProbeError::UnknownCall);
+        };
+        set(settings, name, Bytes::from_slice(alloc, text)?)?;
     }
-    Ok(Some(settings))
+    Ok(())
 }
 
 fn no_settings() -> PersonaSettings {
@@ -127,49 +132,57 @@ fn no_settings() -> PersonaSettings {
     }
 }
 
-/// Sets the text of this name, if there is one.
-fn set(settings: &mut PersonaSettings, name: &[u8], text: Bytes) -> bool {
-    if let Some(name) = name.strip_prefix(b"committer-") {
+/// Sets the text of this name.
+fn set(settings: &mut PersonaSettings, name: &str, text: Bytes) -> Result<(), ProbeError> {
+    if let Some(name) = name.strip_prefix("committer-") {
         return set_of_committer(settings, name, text);
     }
-    if let Some(name) = name.strip_prefix(b"author-") {
+    if let Some(name) = name.strip_prefix("author-") {
         return set_of_author(settings, name, text);
     }
     set_of_user(settings, name, text)
 }
 
-fn set_of_committer(settings: &mut PersonaSettings, name: &[u8], text: Bytes) -> bool {
+fn set_of_committer(
+    settings: &mut PersonaSettings,
+    name: &str,
+    text: Bytes,
+) -> Result<(), ProbeError> {
     match name {
-        b"name" => settings.committer_name = Some(text),
-        b"email" => settings.committer_email = Some(text),
-        b"name-fallback" => settings.committer_name_fallback = Some(text),
-        b"email-fallback" => settings.committer_email_fallback = Some(text),
-        b"date" => settings.committer_date = Some(text),
-        _ => return false,
+        "name" => settings.committer_name = Some(text),
+        "email" => settings.committer_email = Some(text),
+        "name-fallback" => settings.committer_name_fallback = Some(text),
+        "email-fallback" => settings.committer_email_fallback = Some(text),
+        "date" => settings.committer_date = Some(text),
+        _ => return Err(ProbeError::UnknownCall),
     }
-    true
+    Ok(())
 }
 
-fn set_of_author(settings: &mut PersonaSettings, name: &[u8], text: Bytes) -> bool {
+fn set_of_author(
+    settings: &mut PersonaSettings,
+    name: &str,
+    text: Bytes,
+) -> Result<(), ProbeError> {
     match name {
-        b"name" => settings.author_name = Some(text),
-        b"email" => settings.author_email = Some(text),
-        b"name-fallback" => settings.author_name_fallback = Some(text),
-        b"email-fallback" => settings.author_email_fallback = Some(text),
-        b"date" => settings.author_date = Some(text),
-        _ => return false,
+        "name" => settings.author_name = Some(text),
+        "email" => settings.author_email = Some(text),
+        "name-fallback" => settings.author_name_fallback = Some(text),
+        "email-fallback" => settings.author_email_fallback = Some(text),
+        "date" => settings.author_date = Some(text),
+        _ => return Err(ProbeError::UnknownCall),
     }
-    true
+    Ok(())
 }
 
-fn set_of_user(settings: &mut PersonaSettings, name: &[u8], text: Bytes) -> bool {
+fn set_of_user(settings: &mut PersonaSettings, name: &str, text: Bytes) -> Result<(), ProbeError> {
     match name {
-        b"user-name" => settings.user_name = Some(text),
-        b"user-email" => settings.user_email = Some(text),
-        b"user-email-fallback" => settings.user_email_fallback = Some(text),
-        _ => return false,
+        "user-name" => settings.user_name = Some(text),
+        "user-email" => settings.user_email = Some(text),
+        "user-email-fallback" => settings.user_email_fallback = Some(text),
+        _ => return Err(ProbeError::UnknownCall),
     }
-    true
+    Ok(())
 }
 
 fn answer_mailmap(alloc: Global, fields: &[Vec<u8>]) -> Result<Vec<u8>, ProbeError> {
@@ -178,9 +191,14 @@ fn answer_mailmap(alloc: Global, fields: &[Vec<u8>]) -> Result<Vec<u8>, ProbeErr
     };
     let mut snapshot = Snapshot::new(alloc);
     for mailmap in mailmaps {
-        snapshot.merge(parse_ignore_errors(alloc, mailmap)?)?;
+        merge(alloc, &mut snapshot, mailmap)?;
     }
     shown_resolved(alloc, &snapshot, name, email)
+}
+
+/// Merges the entries of a mailmap.
+pub fn merge(alloc: Global, snapshot: &mut Snapshot, mailmap: &[u8]) -> Result<(), NoMemory> {
+    snapshot.merge(parse_ignore_errors(alloc, mailmap)?)
 }
 
 fn shown_resolved(
@@ -215,13 +233,18 @@ fn answer_entries(alloc: Global, fields: &[Vec<u8>]) -> Result<Vec<u8>, ProbeErr
         return word(alloc, "none");
     }
     let mut answer = Vec::new(alloc);
-    for entry in entries.as_slice() {
-        push_text(&mut answer, &entry.new_name)?;
-        push_text(&mut answer, &entry.new_email)?;
-        push_text(&mut answer, &entry.old_name)?;
-        push_field(&mut answer, entry.old_email.as_slice())?;
-    }
+    push_entries(&mut answer, entries.as_slice())?;
     Ok(answer)
+}
+
+fn push_entries(answer: &mut Vec<u8>, entries: &[Entry]) -> Result<(), ProbeError> {
+    for entry in entries {
+        push_text(answer, &entry.new_name)?;
+        push_text(answer, &entry.new_email)?;
+        push_text(answer, &entry.old_name)?;
+        push_field(answer, entry.old_email.as_slice())?;
+    }
+    Ok(())
 }
 
 /// A text, or `-` where there is none.
@@ -233,31 +256,42 @@ fn push_text(answer: &mut Vec<u8>, text: &Option<Bytes>) -> Result<(), ProbeErro
 }
 
 /// What entries give that are handed in, four texts for each as they are printed. They are merged one by one.
-fn answer_merged(alloc: Global, fields: &[Vec<u8>]) -> Result<Option<Vec<u8>>, ProbeError> {
+fn answer_merged(alloc: Global, fields: &[Vec<u8>]) -> Result<Vec<u8>, ProbeError> {
     let [name, email, texts @ ..] = fields else {
-        return Ok(None);
+        return Err(ProbeError::UnknownCall);
     };
     let mut snapshot = Snapshot::new(alloc);
-    snapshot.merge(MailmapEntries::new(alloc))?;
-    for entry in texts.chunks(4) {
-        let Some(entry) = read_entry(alloc, entry)? else {
-            return Ok(None);
-        };
-        snapshot.merge(with_entry(MailmapEntries::new(alloc), entry)?)?;
-    }
-    Ok(Some(shown_resolved(alloc, &snapshot, name, email)?))
+    merge_all(alloc, &mut snapshot, texts)?;
+    shown_resolved(alloc, &snapshot, name, email)
 }
 
-fn read_entry(alloc: Global, texts: &[Vec<u8>]) -> Result<Option<Entry>, NoMemory> {
+fn merge_all(alloc: Global, snapshot: &mut Snapshot, texts: &[Vec<u8>]) -> Result<(), ProbeError> {
+    snapshot.merge(MailmapEntries::new(alloc))?;
+    for entry in texts.chunks(4) {
+        snapshot.merge(entries_of(alloc, entry_in(alloc, entry)?)?)?;
+    }
+    Ok(())
+}
+
+fn entry_in(alloc: Global, texts: &[Vec<u8>]) -> Result<Entry, ProbeError> {
     let [new_name, new_email, old_name, old_email] = texts else {
-        return Ok(None);
+        return Err(ProbeError::UnknownCall);
     };
-    Ok(Some(Entry {
-        new_name: read_text(alloc, new_name)?,
-        new_email: read_text(alloc, new_email)?,
-        old_name: read_text(alloc, old_name)?,
-        old_email: Bytes::from_slice(alloc, old_email)?,
-    }))
+    let mut entry = entry_of(Bytes::from_slice(alloc, old_email)?);
+    entry.new_name = read_text(alloc, new_name)?;
+    entry.new_email = read_text(alloc, new_email)?;
+    entry.old_name = read_text(alloc, old_name)?;
+    Ok(entry)
+}
+
+/// The entry of this old email alone.
+fn entry_of(old_email: Bytes) -> Entry {
+    Entry {
+        new_name: None,
+        new_email: None,
+        old_name: None,
+        old_email,
+    }
 }
 
 fn read_text(alloc: Global, text: &[u8]) -> Result<Option<Bytes>, NoMemory> {
@@ -267,9 +301,8 @@ fn read_text(alloc: Global, text: &[u8]) -> Result<Option<Bytes>, NoMemory> {
     Ok(Some(Bytes::from_slice(alloc, text)?))
 }
 
-/// The entries and one more.
-fn with_entry(entries: MailmapEntries, entry: Entry) -> Result<MailmapEntries, ProbeError> {
-    let mut entries = entries.into_vec();
+fn entries_of(alloc: Global, entry: Entry) -> Result<MailmapEntries, ProbeError> {
+    let mut entries = MailmapEntries::new(alloc).into_vec();
     entries.push(entry)?;
     Ok(MailmapEntries::from_vec(entries))
 }

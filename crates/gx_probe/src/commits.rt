@@ -2,95 +2,115 @@
 //! its committer by four fields each, its encoding or `none`, its message, and the name and the value of each further
 //! header.
 
+use crate::fields::{hash_in, id_in, split_fields, text_in};
 use crate::identities::identity_in;
 use crate::objects::{
     Cuts, push_named_id, push_part, push_who, rewrite_commit, size_and_id, spelled, texts,
 };
-use gx_hash::{Bytes, HashKind, object_id};
+use gx_hash::{Bytes, HashKind, NoMemory, object_id};
 use gx_object::{
     Commit, CommitRef, CommitRefIter, CommitToken, ExtraHeader, Headers, Ids, OwnedHeader,
-    Signature, WriteTo, push_commit, signature_of,
+    SignedData, WriteTo, push_commit, signature_of,
 };
 use probe_rows::ProbeError;
-use probe_rows::answers::{
-    again, hash_of, hex, id_of, push_failure, push_field, push_id, push_word, quoted, word,
-};
+use probe_rows::answers::{again, hex, push_failure, push_field, push_id, push_word, quoted, word};
 use std::alloc::Global;
 
 /// The answers to rows on commits.
-pub fn answer(
-    alloc: Global,
-    call: &[u8],
-    fields: &[Vec<u8>],
-) -> Result<Option<Vec<u8>>, ProbeError> {
-    let [hash, fields @ ..] = fields else {
-        return Ok(None);
-    };
-    let Some(hash) = hash_of(hash) else {
-        return Ok(None);
-    };
+pub fn answer(alloc: Global, call: &str, fields: &[Vec<u8>]) -> Result<Vec<u8>, ProbeError> {
     match fields {
-        [bytes] => answer_read(alloc, call, hash, bytes),
-        _ => answer_written(alloc, call, hash, fields),
+        [hash, bytes] => answer_read(alloc, call, hash_in(hash)?, bytes),
+        [hash, fields @ ..] => answer_written(alloc, call, hash_in(hash)?, fields),
+        _ => Err(ProbeError::UnknownCall),
     }
 }
 
 fn answer_read(
     alloc: Global,
-    call: &[u8],
+    call: &str,
     hash: HashKind,
     bytes: &[u8],
-) -> Result<Option<Vec<u8>>, ProbeError> {
+) -> Result<Vec<u8>, ProbeError> {
     match call {
-        b"copy_ids" => copied_ids(alloc, bytes),
-        b"commit" => Ok(Some(read_commit(alloc, hash, bytes)?)),
-        b"commit_again" => Ok(Some(read_again(alloc, hash, bytes)?)),
-        b"commit_items" => Ok(Some(items(alloc, hash, bytes)?)),
-        b"commit_cuts" => Ok(Some(cuts(alloc, hash, bytes)?)),
-        b"parents" => Ok(Some(parents(alloc, hash, bytes)?)),
-        b"header_values" => Ok(Some(header_values(alloc, hash, bytes)?)),
-        b"signature" => Ok(Some(signature(alloc, hash, bytes)?)),
-        b"signed_id" => Ok(Some(signed_id(alloc, hash, bytes)?)),
-        _ => answer_part(alloc, call, &CommitRefIter::from_bytes(bytes, hash)),
+        "copy_ids" => copied_ids(alloc, bytes),
+        "commit" => read_commit(alloc, hash, bytes),
+        "commit_again" => read_again(alloc, hash, bytes),
+        "commit_items" => items(alloc, hash, bytes),
+        "commit_cuts" => cuts(alloc, hash, bytes),
+        "parents" => parents(alloc, hash, bytes),
+        _ => answer_part(alloc, call, hash, bytes),
     }
+}
+
+/// A part of a commit, read without the others.
+fn answer_part(
+    alloc: Global,
+    call: &str,
+    hash: HashKind,
+    bytes: &[u8],
+) -> Result<Vec<u8>, ProbeError> {
+    let commit = CommitRefIter::from_bytes(bytes, hash);
+    match call {
+        "commit_tree" => tree(alloc, &commit),
+        "commit_author" => author(alloc, &commit),
+        "commit_committer" => committer(alloc, &commit),
+        "commit_message" => message(alloc, &commit),
+        "header_values" => header_values(alloc, hash, bytes),
+        "signature" => signature(alloc, hash, bytes),
+        "signed_id" => signed_id(alloc, hash, bytes),
+        _ => Err(ProbeError::UnknownCall),
+    }
+}
+
+fn tree(alloc: Global, commit: &CommitRefIter<'_>) -> Result<Vec<u8>, ProbeError> {
+    hex(alloc, &commit.tree_id()?)
+}
+
+fn author(alloc: Global, commit: &CommitRefIter<'_>) -> Result<Vec<u8>, ProbeError> {
+    texts(alloc, &commit.author()?)
+}
+
+fn committer(alloc: Global, commit: &CommitRefIter<'_>) -> Result<Vec<u8>, ProbeError> {
+    texts(alloc, &commit.committer()?)
+}
+
+fn message(alloc: Global, commit: &CommitRefIter<'_>) -> Result<Vec<u8>, ProbeError> {
+    quoted(alloc, commit.message()?.as_bytes())
 }
 
 fn read_again(alloc: Global, hash: HashKind, bytes: &[u8]) -> Result<Vec<u8>, ProbeError> {
     again(alloc, bytes, &rewrite_commit(alloc, bytes, hash)?)
 }
 
-/// A part of a commit, read without the others.
-fn answer_part(
-    alloc: Global,
-    call: &[u8],
-    commit: &CommitRefIter<'_>,
-) -> Result<Option<Vec<u8>>, ProbeError> {
-    match call {
-        b"commit_tree" => Ok(Some(hex(alloc, &commit.tree_id()?)?)),
-        b"commit_author" => Ok(Some(texts(alloc, &commit.author()?)?)),
-        b"commit_committer" => Ok(Some(texts(alloc, &commit.committer()?)?)),
-        b"commit_message" => Ok(Some(quoted(alloc, commit.message()?.as_bytes())?)),
-        _ => Ok(None),
-    }
-}
-
 fn read_commit(alloc: Global, hash: HashKind, bytes: &[u8]) -> Result<Vec<u8>, ProbeError> {
     let commit = CommitRef::from_bytes(alloc, bytes, hash)?;
-    let mut answer = word(alloc, "tree")?;
-    push_field(&mut answer, commit.tree.as_bytes())?;
+    shown_commit(alloc, &commit)
+}
+
+fn shown_commit(alloc: Global, commit: &CommitRef<'_>) -> Result<Vec<u8>, ProbeError> {
+    let mut answer = Vec::new(alloc);
+    push_places(&mut answer, commit)?;
+    push_texts(&mut answer, commit)?;
+    Ok(answer)
+}
+
+fn push_places(answer: &mut Vec<u8>, commit: &CommitRef<'_>) -> Result<(), ProbeError> {
+    push_part(answer, "tree", commit.tree.as_bytes())?;
     for parent in commit.parents.as_slice() {
-        push_part(&mut answer, "parent", parent.as_bytes())?;
+        push_part(answer, "parent", parent.as_bytes())?;
     }
-    push_who(&mut answer, "author", &commit.author)?;
-    push_who(&mut answer, "committer", &commit.committer)?;
+    push_who(answer, "author", &commit.author)?;
+    push_who(answer, "committer", &commit.committer)
+}
+
+fn push_texts(answer: &mut Vec<u8>, commit: &CommitRef<'_>) -> Result<(), ProbeError> {
     if let Some(encoding) = commit.encoding {
-        push_part(&mut answer, "encoding", encoding.as_bytes())?;
+        push_part(answer, "encoding", encoding.as_bytes())?;
     }
     for header in commit.extra_headers.as_slice() {
-        push_header(&mut answer, header)?;
+        push_header(answer, header)?;
     }
-    push_part(&mut answer, "message", commit.message.as_bytes())?;
-    Ok(answer)
+    push_part(answer, "message", commit.message.as_bytes())
 }
 
 fn push_header(answer: &mut Vec<u8>, header: &ExtraHeader<'_>) -> Result<(), ProbeError> {
@@ -102,11 +122,20 @@ fn push_header(answer: &mut Vec<u8>, header: &ExtraHeader<'_>) -> Result<(), Pro
 fn header_values(alloc: Global, hash: HashKind, bytes: &[u8]) -> Result<Vec<u8>, ProbeError> {
     let commit = CommitRef::from_bytes(alloc, bytes, hash)?;
     let mut answer = Vec::new(alloc);
-    for header in commit.extra_headers.as_slice() {
-        push_field(&mut answer, header.name.as_bytes())?;
-        push_field(&mut answer, header.value(alloc)?.as_slice())?;
-    }
+    push_values(alloc, &mut answer, commit.extra_headers.as_slice())?;
     Ok(answer)
+}
+
+fn push_values(
+    alloc: Global,
+    answer: &mut Vec<u8>,
+    headers: &[ExtraHeader<'_>],
+) -> Result<(), ProbeError> {
+    for header in headers {
+        push_field(answer, header.name.as_bytes())?;
+        push_field(answer, header.value(alloc)?.as_slice())?;
+    }
+    Ok(())
 }
 
 /// The parts that the iterator gives, the error after them if there is one, and `end`.
@@ -155,43 +184,64 @@ fn parents(alloc: Global, hash: HashKind, bytes: &[u8]) -> Result<Vec<u8>, Probe
 
 /// The value of the signature, and the bytes that it signs.
 fn signature(alloc: Global, hash: HashKind, bytes: &[u8]) -> Result<Vec<u8>, ProbeError> {
-    let Some((value, signed)) = signature_of(alloc, bytes, hash)? else {
-        return word(alloc, "none");
-    };
-    let mut answer = quoted(alloc, value.as_slice())?;
+    match signature_of(alloc, bytes, hash)? {
+        Some((value, signed)) => value_and_bytes(alloc, value.as_slice(), &signed),
+        None => word(alloc, "none"),
+    }
+}
+
+fn value_and_bytes(
+    alloc: Global,
+    value: &[u8],
+    signed: &SignedData<'_>,
+) -> Result<Vec<u8>, ProbeError> {
+    let mut answer = quoted(alloc, value)?;
     push_field(&mut answer, signed.to_bytes(alloc)?.as_slice())?;
     Ok(answer)
 }
 
 /// The value of the signature, and the id of the commit that it signs.
 fn signed_id(alloc: Global, hash: HashKind, bytes: &[u8]) -> Result<Vec<u8>, ProbeError> {
-    let Some((value, signed)) = signature_of(alloc, bytes, hash)? else {
-        return word(alloc, "none");
-    };
-    let signed = signed.to_bytes(alloc)?;
-    let mut answer = quoted(alloc, value.as_slice())?;
-    push_id(&mut answer, &object_id(hash, b"commit", signed.as_slice()))?;
+    match signature_of(alloc, bytes, hash)? {
+        Some((value, signed)) => value_and_id(alloc, hash, value.as_slice(), &signed),
+        None => word(alloc, "none"),
+    }
+}
+
+fn value_and_id(
+    alloc: Global,
+    hash: HashKind,
+    value: &[u8],
+    signed: &SignedData<'_>,
+) -> Result<Vec<u8>, ProbeError> {
+    let bytes = signed.to_bytes(alloc)?;
+    let mut answer = quoted(alloc, value)?;
+    push_id(&mut answer, &object_id(hash, b"commit", bytes.as_slice()))?;
     Ok(answer)
 }
 
 fn answer_written(
     alloc: Global,
-    call: &[u8],
+    call: &str,
     hash: HashKind,
     fields: &[Vec<u8>],
-) -> Result<Option<Vec<u8>>, ProbeError> {
-    let Some(commit) = commit_of(alloc, fields)? else {
-        return Ok(None);
-    };
+) -> Result<Vec<u8>, ProbeError> {
     match call {
-        b"write_commit" => Ok(Some(spelled(alloc, commit.to_bytes(alloc))?)),
-        b"commit_id" => {
-            let written = commit.to_bytes(alloc);
-            Ok(Some(size_and_id(alloc, hash, commit.kind(), written)?))
-        }
-        b"push_commit" => Ok(Some(pushed(alloc, &commit)?)),
-        _ => Ok(None),
+        "write_commit" => written(alloc, fields),
+        "commit_id" => id_of_written(alloc, hash, fields),
+        "push_commit" => pushed(alloc, &commit_in(alloc, fields)?),
+        _ => Err(ProbeError::UnknownCall),
     }
+}
+
+fn written(alloc: Global, fields: &[Vec<u8>]) -> Result<Vec<u8>, ProbeError> {
+    let commit = commit_in(alloc, fields)?;
+    spelled(alloc, commit.to_bytes(alloc))
+}
+
+fn id_of_written(alloc: Global, hash: HashKind, fields: &[Vec<u8>]) -> Result<Vec<u8>, ProbeError> {
+    let commit = commit_in(alloc, fields)?;
+    size_and_id(alloc, hash, commit.kind(), commit.to_bytes(alloc))
 }
 
 /// The commit without its encoding and its further headers.
@@ -208,92 +258,80 @@ fn pushed(alloc: Global, commit: &Commit) -> Result<Vec<u8>, ProbeError> {
     quoted(alloc, &out)
 }
 
-fn commit_of(alloc: Global, fields: &[Vec<u8>]) -> Result<Option<Commit>, ProbeError> {
-    let Some((places, fields)) = fields.split_at_checked(2) else {
-        return Ok(None);
+fn commit_in(alloc: Global, fields: &[Vec<u8>]) -> Result<Commit, ProbeError> {
+    let [tree, parents, fields @ ..] = fields else {
+        return Err(ProbeError::UnknownCall);
     };
-    let Some((author, fields)) = fields.split_at_checked(4) else {
-        return Ok(None);
-    };
-    let Some((committer, texts)) = fields.split_at_checked(4) else {
-        return Ok(None);
-    };
-    let Some(author) = identity_in(alloc, author)? else {
-        return Ok(None);
-    };
-    let Some(committer) = identity_in(alloc, committer)? else {
-        return Ok(None);
-    };
-    commit_by(alloc, places, author, committer, texts)
+    let (people, texts) = split_fields(fields, 8)?;
+    let mut commit = commit_by(alloc, tree, people)?;
+    commit.parents = ids_in(alloc, parents)?;
+    set_texts(alloc, &mut commit, texts)?;
+    Ok(commit)
 }
 
-/// The commit of these two, of the fields of its tree and its parents, and of those of its texts.
-fn commit_by(
-    alloc: Global,
-    places: &[Vec<u8>],
-    author: Signature,
-    committer: Signature,
-    texts: &[Vec<u8>],
-) -> Result<Option<Commit>, ProbeError> {
-    let ([tree, parents], [encoding, message, headers @ ..]) = (places, texts) else {
-        return Ok(None);
-    };
-    let (Some(tree), Some(parents)) = (id_of(tree), ids_of(alloc, parents)?) else {
-        return Ok(None);
-    };
-    Ok(Some(Commit {
+/// The commit of a tree by an author and a committer, without parents and texts.
+fn commit_by(alloc: Global, tree: &[u8], people: &[Vec<u8>]) -> Result<Commit, ProbeError> {
+    let (author, committer) = split_fields(people, 4)?;
+    let tree = id_in(tree)?;
+    let author = identity_in(alloc, author)?;
+    let committer = identity_in(alloc, committer)?;
+    Ok(Commit {
         tree,
-        parents,
+        parents: Ids::from_vec(Vec::new(alloc)),
         author,
         committer,
-        encoding: text_of(alloc, encoding)?,
-        message: Bytes::from_slice(alloc, message)?,
-        extra_headers: headers_of(alloc, headers)?,
-    }))
+        encoding: None,
+        message: Bytes::from_vec(Vec::new(alloc)),
+        extra_headers: Headers::from_vec(Vec::new(alloc)),
+    })
+}
+
+fn set_texts(alloc: Global, commit: &mut Commit, texts: &[Vec<u8>]) -> Result<(), ProbeError> {
+    let [encoding, message, headers @ ..] = texts else {
+        return Err(ProbeError::UnknownCall);
+    };
+    commit.encoding = text_in(alloc, encoding)?;
+    commit.message = Bytes::from_slice(alloc, message)?;
+    commit.extra_headers = headers_in(alloc, headers)?;
+    Ok(())
 }
 
 /// The ids of a field that has a space between each two.
-fn ids_of(alloc: Global, field: &[u8]) -> Result<Option<Ids>, ProbeError> {
+fn ids_in(alloc: Global, field: &[u8]) -> Result<Ids, ProbeError> {
     let mut ids = Vec::new(alloc);
-    for digits in field.split(|byte| *byte == b' ') {
-        match id_of(digits) {
-            Some(id) => ids.push(id)?,
-            None if field.is_empty() => {}
-            None => return Ok(None),
-        }
+    if field.is_empty() {
+        return Ok(Ids::from_vec(ids));
     }
-    Ok(Some(Ids::from_vec(ids)))
+    for digits in field.split(|byte| *byte == b' ') {
+        ids.push(id_in(digits)?)?;
+    }
+    Ok(Ids::from_vec(ids))
 }
 
 /// A copy of the ids of a field.
-fn copied_ids(alloc: Global, field: &[u8]) -> Result<Option<Vec<u8>>, ProbeError> {
-    let Some(ids) = ids_of(alloc, field)? else {
-        return Ok(None);
-    };
+fn copied_ids(alloc: Global, field: &[u8]) -> Result<Vec<u8>, ProbeError> {
+    let ids = ids_in(alloc, field)?.try_clone()?;
     let mut answer = Vec::new(alloc);
-    for id in ids.try_clone()?.as_slice() {
+    for id in ids.as_slice() {
         push_id(&mut answer, id)?;
     }
-    Ok(Some(answer))
+    Ok(answer)
 }
 
-/// The text of a field, which is `none` where there is none.
-pub fn text_of(alloc: Global, field: &[u8]) -> Result<Option<Bytes>, ProbeError> {
-    match field {
-        b"none" => Ok(None),
-        text => Ok(Some(Bytes::from_slice(alloc, text)?)),
-    }
-}
-
-fn headers_of(alloc: Global, fields: &[Vec<u8>]) -> Result<Headers, ProbeError> {
+/// The headers of names and values that stand by turns.
+fn headers_in(alloc: Global, fields: &[Vec<u8>]) -> Result<Headers, NoMemory> {
     let mut headers = Vec::new(alloc);
     for fields in fields.chunks(2) {
         if let [name, value] = fields {
-            headers.push(OwnedHeader {
-                name: Bytes::from_slice(alloc, name)?,
-                value: Bytes::from_slice(alloc, value)?,
-            })?;
+            headers.push(header_of(alloc, name, value)?)?;
         }
     }
     Ok(Headers::from_vec(headers))
+}
+
+fn header_of(alloc: Global, name: &[u8], value: &[u8]) -> Result<OwnedHeader, NoMemory> {
+    Ok(OwnedHeader {
+        name: Bytes::from_slice(alloc, name)?,
+        value: Bytes::from_slice(alloc, value)?,
+    })
 }

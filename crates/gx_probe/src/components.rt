@@ -6,38 +6,34 @@ use probe_rows::answers::{push_field, push_word, shown, truth, word};
 use std::alloc::Global;
 
 /// The answers to rows on components, paths and patterns.
-pub fn answer(
-    alloc: Global,
-    call: &[u8],
-    fields: &[Vec<u8>],
-) -> Result<Option<Vec<u8>>, ProbeError> {
+pub fn answer(alloc: Global, call: &str, fields: &[Vec<u8>]) -> Result<Vec<u8>, ProbeError> {
     match fields {
         [first] => answer_to_one(alloc, call, first),
         [first, second] => answer_to_two(alloc, call, first, second),
-        _ => Ok(None),
+        _ => Err(ProbeError::UnknownCall),
     }
 }
 
-fn answer_to_one(alloc: Global, call: &[u8], first: &[u8]) -> Result<Option<Vec<u8>>, ProbeError> {
+fn answer_to_one(alloc: Global, call: &str, first: &[u8]) -> Result<Vec<u8>, ProbeError> {
     match call {
-        b"components" => Ok(Some(answer_path(alloc, first)?)),
-        b"pattern" => Ok(Some(answer_pattern(alloc, first)?)),
-        _ => Ok(None),
+        "components" => answer_path(alloc, first),
+        "pattern" => answer_pattern(alloc, first),
+        _ => Err(ProbeError::UnknownCall),
     }
 }
 
 fn answer_to_two(
     alloc: Global,
-    call: &[u8],
+    call: &str,
     first: &[u8],
     second: &[u8],
-) -> Result<Option<Vec<u8>>, ProbeError> {
+) -> Result<Vec<u8>, ProbeError> {
     match call {
-        b"component" => answer_component(alloc, first, second, false),
-        b"link_component" => answer_component(alloc, first, second, true),
-        b"component_message" => answer_message(alloc, first, second),
-        b"matches" => Ok(Some(answer_match(alloc, first, second)?)),
-        _ => Ok(None),
+        "component" => answer_component(alloc, first, second, false),
+        "link_component" => answer_component(alloc, first, second, true),
+        "component_message" => answer_message(alloc, first, second),
+        "matches" => answer_match(alloc, first, second),
+        _ => Err(ProbeError::UnknownCall),
     }
 }
 
@@ -46,29 +42,33 @@ fn answer_component(
     protect: &[u8],
     name: &[u8],
     is_link: bool,
-) -> Result<Option<Vec<u8>>, ProbeError> {
-    let Some(protect) = protect_of(protect) else {
-        return Ok(None);
-    };
-    match component(name, is_link, protect) {
-        Ok(()) => Ok(Some(word(alloc, "ok")?)),
-        Err(error) => Ok(Some(word(alloc, refusal(error))?)),
+) -> Result<Vec<u8>, ProbeError> {
+    match component(name, is_link, protect_of(protect)?) {
+        Ok(()) => word(alloc, "ok"),
+        Err(error) => word(alloc, refusal(error)),
     }
 }
 
 /// `none`, `default`, or words for file systems.
-fn protect_of(field: &[u8]) -> Option<Protect> {
-    let (hfs, ntfs, windows) = match field {
-        b"default" => return Some(Protect::default()),
-        b"none" => (false, false, false),
-        b"hfs" => (true, false, false),
-        b"ntfs" => (false, true, false),
-        b"windows" => (false, false, true),
-        b"hfs-ntfs" => (true, true, false),
-        b"all" => (true, true, true),
-        _ => return None,
+fn protect_of(field: &[u8]) -> Result<Protect, ProbeError> {
+    match str::from_utf8(field) {
+        Ok("default") => Ok(Protect::default()),
+        Ok(word) => protect_by(word),
+        Err(_) => Err(ProbeError::UnknownCall),
+    }
+}
+
+fn protect_by(word: &str) -> Result<Protect, ProbeError> {
+    let (hfs, ntfs, windows) = match word {
+        "none" => (false, false, false),
+        "hfs" => (true, false, false),
+        "ntfs" => (false, true, false),
+        "windows" => (false, false, true),
+        "hfs-ntfs" => (true, true, false),
+        "all" => (true, true, true),
+        _ => return Err(ProbeError::UnknownCall),
     };
-    Some(Protect { hfs, ntfs, windows })
+    Ok(Protect { hfs, ntfs, windows })
 }
 
 fn refusal(error: ComponentError) -> &'static str {
@@ -84,17 +84,10 @@ fn refusal(error: ComponentError) -> &'static str {
 }
 
 /// The words on why a link may not have the name.
-fn answer_message(
-    alloc: Global,
-    protect: &[u8],
-    name: &[u8],
-) -> Result<Option<Vec<u8>>, ProbeError> {
-    let Some(protect) = protect_of(protect) else {
-        return Ok(None);
-    };
-    match component(name, true, protect) {
-        Ok(()) => Ok(Some(word(alloc, "ok")?)),
-        Err(error) => Ok(Some(shown(alloc, &error)?)),
+fn answer_message(alloc: Global, protect: &[u8], name: &[u8]) -> Result<Vec<u8>, ProbeError> {
+    match component(name, true, protect_of(protect)?) {
+        Ok(()) => word(alloc, "ok"),
+        Err(error) => shown(alloc, &error),
     }
 }
 

@@ -1,5 +1,6 @@
 //! Rows on identities, times and messages. An identity's fields are its name, its email, its seconds and its offset.
 
+use crate::fields::split_fields;
 use crate::objects::{field_word, texts};
 use bstr::BStr;
 use gx_hash::{Bytes, HashKind};
@@ -12,31 +13,24 @@ use probe_rows::answers::{push_field, push_shown, quoted, shown, signed_of, trut
 use std::alloc::Global;
 
 /// The answers to rows on identities, times and messages.
-pub fn answer(
-    alloc: Global,
-    call: &[u8],
-    fields: &[Vec<u8>],
-) -> Result<Option<Vec<u8>>, ProbeError> {
+pub fn answer(alloc: Global, call: &str, fields: &[Vec<u8>]) -> Result<Vec<u8>, ProbeError> {
     match fields {
         [text] => answer_text(alloc, call, text),
         [name, email, time] => answer_ref(alloc, call, &identity_ref(name, email, time)),
-        _ => match call {
-            b"unwritable" => answer_unwritable(alloc, fields),
-            _ => answer_identity(alloc, call, fields),
-        },
+        _ => answer_identity(alloc, call, fields),
     }
 }
 
-fn answer_text(alloc: Global, call: &[u8], text: &[u8]) -> Result<Option<Vec<u8>>, ProbeError> {
+fn answer_text(alloc: Global, call: &str, text: &[u8]) -> Result<Vec<u8>, ProbeError> {
     match call {
-        b"time" => Ok(Some(time(alloc, text)?)),
-        b"time_message" => Ok(Some(time_message(alloc, text)?)),
-        b"seconds" => Ok(Some(seconds(alloc, text)?)),
-        b"identity" => Ok(Some(split(alloc, text)?)),
-        b"message" => Ok(Some(parts(alloc, text)?)),
-        b"summary" => Ok(Some(summary_of(alloc, text)?)),
-        b"title_summary" => Ok(Some(title_summary(alloc, text)?)),
-        _ => Ok(None),
+        "time" => time(alloc, text),
+        "time_message" => time_message(alloc, text),
+        "seconds" => seconds(alloc, text),
+        "identity" => split(alloc, text),
+        "message" => parts(alloc, text),
+        "summary" => summary_of(alloc, text),
+        "title_summary" => title_summary(alloc, text),
+        _ => Err(ProbeError::UnknownCall),
     }
 }
 
@@ -102,43 +96,39 @@ fn title_summary(alloc: Global, text: &[u8]) -> Result<Vec<u8>, ProbeError> {
     quoted(alloc, title.as_slice())
 }
 
-fn answer_ref(
-    alloc: Global,
-    call: &[u8],
-    who: &SignatureRef<'_>,
-) -> Result<Option<Vec<u8>>, ProbeError> {
+fn answer_ref(alloc: Global, call: &str, who: &SignatureRef<'_>) -> Result<Vec<u8>, ProbeError> {
     match call {
-        b"own_identity" => Ok(Some(owned(alloc, who)?)),
-        b"trim_identity" => Ok(Some(texts(alloc, &who.trim())?)),
-        _ => Ok(None),
+        "own_identity" => owned(alloc, who),
+        "trim_identity" => texts(alloc, &who.trim()),
+        _ => Err(ProbeError::UnknownCall),
     }
 }
 
 fn owned(alloc: Global, who: &SignatureRef<'_>) -> Result<Vec<u8>, ProbeError> {
-    let owned = match who.to_owned(alloc) {
-        Ok(owned) => owned,
-        Err(SignatureError::BadTime) => return word(alloc, "bad-time"),
-        Err(SignatureError::NoMemory) => return Err(ProbeError::NoMemory),
-    };
-    let mut answer = quoted(alloc, owned.name.as_slice())?;
-    push_field(&mut answer, owned.email.as_slice())?;
-    push_field(&mut answer, &seconds_and_offset(alloc, owned.time)?)?;
+    match who.to_owned(alloc) {
+        Ok(owned) => shown_identity(alloc, &owned),
+        Err(SignatureError::BadTime) => word(alloc, "bad-time"),
+        Err(SignatureError::NoMemory) => Err(ProbeError::NoMemory),
+    }
+}
+
+fn shown_identity(alloc: Global, who: &Signature) -> Result<Vec<u8>, ProbeError> {
+    let mut answer = quoted(alloc, who.name.as_slice())?;
+    push_field(&mut answer, who.email.as_slice())?;
+    push_field(&mut answer, &seconds_and_offset(alloc, who.time)?)?;
     Ok(answer)
 }
 
 /// The identity that four fields are.
-pub fn identity_in(alloc: Global, fields: &[Vec<u8>]) -> Result<Option<Signature>, ProbeError> {
+pub fn identity_in(alloc: Global, fields: &[Vec<u8>]) -> Result<Signature, ProbeError> {
     let [name, email, seconds, offset] = fields else {
-        return Ok(None);
+        return Err(ProbeError::UnknownCall);
     };
-    let Some(time) = time_of(seconds, offset) else {
-        return Ok(None);
-    };
-    Ok(Some(Signature {
+    Ok(Signature {
+        time: time_of(seconds, offset).ok_or(ProbeError::UnknownCall)?,
         name: Bytes::from_slice(alloc, name)?,
         email: Bytes::from_slice(alloc, email)?,
-        time,
-    }))
+    })
 }
 
 fn time_of(seconds: &[u8], offset: &[u8]) -> Option<Time> {
@@ -148,20 +138,24 @@ fn time_of(seconds: &[u8], offset: &[u8]) -> Option<Time> {
     })
 }
 
-fn answer_identity(
-    alloc: Global,
-    call: &[u8],
-    fields: &[Vec<u8>],
-) -> Result<Option<Vec<u8>>, ProbeError> {
-    let Some(who) = identity_in(alloc, fields)? else {
-        return Ok(None);
-    };
+fn answer_identity(alloc: Global, call: &str, fields: &[Vec<u8>]) -> Result<Vec<u8>, ProbeError> {
     match call {
-        b"write_identity" => Ok(Some(written(alloc, &who)?)),
-        b"copy_identity" => Ok(Some(written(alloc, &who.try_clone()?)?)),
-        b"is_writable_identity" => Ok(Some(truth(alloc, is_writable_identity(&who))?)),
-        _ => Ok(None),
+        "write_identity" => written(alloc, &identity_in(alloc, fields)?),
+        "copy_identity" => copied(alloc, fields),
+        "is_writable_identity" => is_writable(alloc, fields),
+        "unwritable" => answer_unwritable(alloc, fields),
+        _ => Err(ProbeError::UnknownCall),
     }
+}
+
+fn copied(alloc: Global, fields: &[Vec<u8>]) -> Result<Vec<u8>, ProbeError> {
+    let who = identity_in(alloc, fields)?;
+    written(alloc, &who.try_clone()?)
+}
+
+fn is_writable(alloc: Global, fields: &[Vec<u8>]) -> Result<Vec<u8>, ProbeError> {
+    let who = identity_in(alloc, fields)?;
+    truth(alloc, is_writable_identity(&who))
 }
 
 fn written(alloc: Global, who: &Signature) -> Result<Vec<u8>, ProbeError> {
@@ -171,18 +165,12 @@ fn written(alloc: Global, who: &Signature) -> Result<Vec<u8>, ProbeError> {
 }
 
 /// The first field of an author and a committer that can't be written.
-fn answer_unwritable(alloc: Global, fields: &[Vec<u8>]) -> Result<Option<Vec<u8>>, ProbeError> {
-    let Some((author, committer)) = fields.split_at_checked(4) else {
-        return Ok(None);
-    };
-    let Some(author) = identity_in(alloc, author)? else {
-        return Ok(None);
-    };
-    let Some(committer) = identity_in(alloc, committer)? else {
-        return Ok(None);
-    };
+fn answer_unwritable(alloc: Global, fields: &[Vec<u8>]) -> Result<Vec<u8>, ProbeError> {
+    let (author, committer) = split_fields(fields, 4)?;
+    let author = identity_in(alloc, author)?;
+    let committer = identity_in(alloc, committer)?;
     match unwritable_identity(&author, &committer) {
-        Some(field) => Ok(Some(word(alloc, field_word(field))?)),
-        None => Ok(Some(word(alloc, "none")?)),
+        Some(field) => word(alloc, field_word(field)),
+        None => word(alloc, "none"),
     }
 }

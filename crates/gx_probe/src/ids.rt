@@ -8,55 +8,46 @@ use probe_rows::answers::{
 use std::alloc::Global;
 
 /// The answers to rows on ids. A call may want a kind of ids, an id, or two.
-pub fn answer(
-    alloc: Global,
-    call: &[u8],
-    fields: &[Vec<u8>],
-) -> Result<Option<Vec<u8>>, ProbeError> {
+pub fn answer(alloc: Global, call: &str, fields: &[Vec<u8>]) -> Result<Vec<u8>, ProbeError> {
     match fields {
         [first] => answer_to_one(alloc, call, first),
         [first, second] => answer_to_two(alloc, call, first, second),
-        [hash, kind, bytes] => answer_to_three(alloc, call, [hash, kind, bytes]),
-        _ => Ok(None),
+        [hash, kind, bytes] if call == "object_id" => answer_object_id(alloc, hash, kind, bytes),
+        _ => Err(ProbeError::UnknownCall),
     }
 }
 
-fn answer_to_one(alloc: Global, call: &[u8], first: &[u8]) -> Result<Option<Vec<u8>>, ProbeError> {
+fn answer_to_one(alloc: Global, call: &str, first: &[u8]) -> Result<Vec<u8>, ProbeError> {
     match call {
-        b"id" => Ok(Some(answer_id(alloc, first)?)),
-        b"id_message" => answer_id_message(alloc, first),
-        b"bytes_copy" | b"bytes_clone" => Ok(Some(copied(alloc, call, first)?)),
-        _ => match (hash_of(first), id_of(first)) {
-            (Some(hash), _) => answer_of_kind(alloc, call, hash),
-            (None, Some(id)) => answer_of_id(alloc, call, &id),
-            _ => Ok(None),
+        "id" => answer_id(alloc, first),
+        "id_message" => answer_id_message(alloc, first),
+        "bytes_copy" => copied(alloc, first),
+        "bytes_clone" => cloned(alloc, first),
+        _ => answer_of(alloc, call, first),
+    }
+}
+
+fn answer_of(alloc: Global, call: &str, first: &[u8]) -> Result<Vec<u8>, ProbeError> {
+    match hash_of(first) {
+        Some(hash) => answer_of_kind(alloc, call, hash),
+        None => match id_of(first) {
+            Some(id) => answer_of_id(alloc, call, &id),
+            None => Err(ProbeError::UnknownCall),
         },
     }
 }
 
 fn answer_to_two(
     alloc: Global,
-    call: &[u8],
+    call: &str,
     first: &[u8],
     second: &[u8],
-) -> Result<Option<Vec<u8>>, ProbeError> {
+) -> Result<Vec<u8>, ProbeError> {
     match call {
-        b"id_from_bytes" => answer_id_from_bytes(alloc, first, second),
-        b"compare_ids" => answer_order(alloc, first, second),
-        b"compare_bytes" => Ok(Some(bytes_order(alloc, first, second)?)),
-        _ => Ok(None),
-    }
-}
-
-fn answer_to_three(
-    alloc: Global,
-    call: &[u8],
-    fields: [&[u8]; 3],
-) -> Result<Option<Vec<u8>>, ProbeError> {
-    let [hash, kind, bytes] = fields;
-    match call {
-        b"object_id" => answer_object_id(alloc, hash, kind, bytes),
-        _ => Ok(None),
+        "id_from_bytes" => answer_id_from_bytes(alloc, first, second),
+        "compare_ids" => answer_order(alloc, first, second),
+        "compare_bytes" => bytes_order(alloc, first, second),
+        _ => Err(ProbeError::UnknownCall),
     }
 }
 
@@ -65,24 +56,20 @@ fn answer_object_id(
     hash: &[u8],
     kind: &[u8],
     bytes: &[u8],
-) -> Result<Option<Vec<u8>>, ProbeError> {
+) -> Result<Vec<u8>, ProbeError> {
     match hash_of(hash) {
-        Some(hash) => Ok(Some(hex(alloc, &object_id(hash, kind, bytes))?)),
-        None => Ok(None),
+        Some(hash) => hex(alloc, &object_id(hash, kind, bytes)),
+        None => Err(ProbeError::UnknownCall),
     }
 }
 
-fn answer_id_from_bytes(
-    alloc: Global,
-    hash: &[u8],
-    bytes: &[u8],
-) -> Result<Option<Vec<u8>>, ProbeError> {
+fn answer_id_from_bytes(alloc: Global, hash: &[u8], bytes: &[u8]) -> Result<Vec<u8>, ProbeError> {
     let Some(hash) = hash_of(hash) else {
-        return Ok(None);
+        return Err(ProbeError::UnknownCall);
     };
     match ObjectId::from_bytes(hash, bytes) {
-        Some(id) => Ok(Some(hex(alloc, &id)?)),
-        None => Ok(Some(word(alloc, "none")?)),
+        Some(id) => hex(alloc, &id),
+        None => word(alloc, "none"),
     }
 }
 
@@ -107,24 +94,20 @@ fn hash_word(hash: HashKind) -> &'static str {
     }
 }
 
-fn answer_id_message(alloc: Global, digits: &[u8]) -> Result<Option<Vec<u8>>, ProbeError> {
+fn answer_id_message(alloc: Global, digits: &[u8]) -> Result<Vec<u8>, ProbeError> {
     match ObjectId::from_hex(digits) {
-        Ok(_) => Ok(None),
-        Err(error) => Ok(Some(shown(alloc, &error)?)),
+        Ok(_) => Err(ProbeError::UnknownCall),
+        Err(error) => shown(alloc, &error),
     }
 }
 
-fn answer_of_kind(
-    alloc: Global,
-    call: &[u8],
-    hash: HashKind,
-) -> Result<Option<Vec<u8>>, ProbeError> {
+fn answer_of_kind(alloc: Global, call: &str, hash: HashKind) -> Result<Vec<u8>, ProbeError> {
     match call {
-        b"null" => Ok(Some(hex(alloc, &hash.null())?)),
-        b"empty_tree" => Ok(Some(hex(alloc, &hash.empty_tree())?)),
-        b"empty_blob" => Ok(Some(hex(alloc, &hash.empty_blob())?)),
-        b"lengths" => Ok(Some(lengths(alloc, hash)?)),
-        _ => Ok(None),
+        "null" => hex(alloc, &hash.null()),
+        "empty_tree" => hex(alloc, &hash.empty_tree()),
+        "empty_blob" => hex(alloc, &hash.empty_blob()),
+        "lengths" => lengths(alloc, hash),
+        _ => Err(ProbeError::UnknownCall),
     }
 }
 
@@ -133,31 +116,35 @@ fn lengths(alloc: Global, hash: HashKind) -> Result<Vec<u8>, ProbeError> {
     Ok(format!(in alloc; "{bytes} {digits}")?.into_bytes())
 }
 
-fn answer_of_id(alloc: Global, call: &[u8], id: &ObjectId) -> Result<Option<Vec<u8>>, ProbeError> {
+fn answer_of_id(alloc: Global, call: &str, id: &ObjectId) -> Result<Vec<u8>, ProbeError> {
     match call {
-        b"is_null" => Ok(Some(truth(alloc, id.is_null())?)),
-        b"is_empty_tree" => Ok(Some(truth(alloc, id.is_empty_tree())?)),
-        b"id_bytes" => Ok(Some(quoted(alloc, id.as_bytes())?)),
-        b"id_text" => Ok(Some(shown(alloc, id)?)),
-        b"id_debug" => Ok(Some(format!(in alloc; "{id:?}")?.into_bytes())),
-        _ => Ok(None),
+        "is_null" => truth(alloc, id.is_null()),
+        "is_empty_tree" => truth(alloc, id.is_empty_tree()),
+        "id_bytes" => quoted(alloc, id.as_bytes()),
+        "id_text" => shown(alloc, id),
+        "id_debug" => debug(alloc, id),
+        _ => Err(ProbeError::UnknownCall),
     }
 }
 
-fn answer_order(alloc: Global, first: &[u8], second: &[u8]) -> Result<Option<Vec<u8>>, ProbeError> {
+fn debug(alloc: Global, id: &ObjectId) -> Result<Vec<u8>, ProbeError> {
+    Ok(format!(in alloc; "{id:?}")?.into_bytes())
+}
+
+fn answer_order(alloc: Global, first: &[u8], second: &[u8]) -> Result<Vec<u8>, ProbeError> {
     match (id_of(first), id_of(second)) {
-        (Some(first), Some(second)) => Ok(Some(order(alloc, first.cmp(&second))?)),
-        _ => Ok(None),
+        (Some(first), Some(second)) => order(alloc, first.cmp(&second)),
+        _ => Err(ProbeError::UnknownCall),
     }
 }
 
-/// A copy of owned bytes, by either way to copy them.
-fn copied(alloc: Global, call: &[u8], bytes: &[u8]) -> Result<Vec<u8>, ProbeError> {
-    let bytes = Bytes::from_slice(alloc, bytes)?;
-    let copy = match call {
-        b"bytes_copy" => bytes.try_clone()?,
-        _ => bytes.clone()?,
-    };
+fn copied(alloc: Global, bytes: &[u8]) -> Result<Vec<u8>, ProbeError> {
+    let copy = Bytes::from_slice(alloc, bytes)?.try_clone()?;
+    quoted(alloc, &copy.into_vec())
+}
+
+fn cloned(alloc: Global, bytes: &[u8]) -> Result<Vec<u8>, ProbeError> {
+    let copy = Bytes::from_slice(alloc, bytes)?.clone()?;
     quoted(alloc, &copy.into_vec())
 }
 

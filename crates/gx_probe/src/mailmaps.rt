@@ -1,7 +1,7 @@
 //! Mailmaps that are asked about many identities.
 
-use crate::actors::resolved;
-use gx_actor::{Snapshot, parse_ignore_errors};
+use crate::actors::{merge, resolved};
+use gx_actor::Snapshot;
 use probe_rows::ProbeError;
 use std::alloc::Global;
 
@@ -10,16 +10,21 @@ use std::alloc::Global;
 pub fn resolve(alloc: Global, input: &[u8]) -> Result<Vec<u8>, ProbeError> {
     let (mailmap, lines) = split_input(input).ok_or(ProbeError::BadLine)?;
     let mut snapshot = Snapshot::new(alloc);
-    snapshot.merge(parse_ignore_errors(alloc, mailmap)?)?;
+    merge(alloc, &mut snapshot, mailmap)?;
     let mut output = Vec::new(alloc);
+    push_all(&mut output, &snapshot, lines)?;
+    Ok(output)
+}
+
+fn push_all(output: &mut Vec<u8>, snapshot: &Snapshot, lines: &[u8]) -> Result<(), ProbeError> {
     for line in lines
         .strip_suffix(b"\n")
         .unwrap_or(lines)
         .split(|byte| *byte == b'\n')
     {
-        push_resolved(&mut output, &snapshot, line)?;
+        push_resolved(output, snapshot, line)?;
     }
-    Ok(output)
+    Ok(())
 }
 
 /// The mailmap, and the lines that follow it.

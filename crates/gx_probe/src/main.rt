@@ -4,6 +4,7 @@
 mod actors;
 mod commits;
 mod components;
+mod fields;
 mod identities;
 mod ids;
 mod mailmaps;
@@ -16,11 +17,11 @@ mod tags;
 mod trees;
 
 use gx_hash::HashKind;
-use probe_rows::ProbeError;
+use probe_rows::{ProbeError, answered, read_input, write_output};
+use rows::Libraries;
 use std::alloc::Global;
-use std::env;
-use std::io::{self, Read, Write};
 use std::process::ExitCode;
+use std::{env, io};
 
 const USAGE: &str = "usage: gx_probe rows | names | mailmap < INPUT
        gx_probe (tree | commit | tag | entries | root | paths) (sha1 | sha256) < INPUT
@@ -124,14 +125,10 @@ fn read_kind(kind: &str) -> Option<HashKind> {
     }
 }
 
-/// Does the job on what standard input holds, and says how that went.
+/// Does the job, and says how that went.
 fn done(rt: &HostRuntime, job: Job) -> u8 {
-    let outcome = match read_input(rt) {
-        Ok(input) => answer(rt.alloc(), job, &input),
-        Err(_) => return FAILED,
-    };
-    match outcome {
-        Ok(output) => written(rt, &output),
+    match outcome(rt, job) {
+        Ok(()) => 0,
         Err(ProbeError::Decode { at }) => {
             let _heard = eprintln!(rt; "no such object from byte {at} on");
             NO_OBJECT
@@ -141,23 +138,16 @@ fn done(rt: &HostRuntime, job: Job) -> u8 {
     }
 }
 
-fn read_input(rt: &HostRuntime) -> io::Result<Vec<u8>> {
-    let mut input = Vec::new(rt.alloc());
-    rt.reader().read_to_end(&mut input)?;
-    Ok(input)
-}
-
-fn written(rt: &HostRuntime, output: &[u8]) -> u8 {
-    match io::writer(rt).write_all(output) {
-        Ok(()) => 0,
-        Err(_) => FAILED,
-    }
+/// Does the job on what standard input holds.
+fn outcome(rt: &HostRuntime, job: Job) -> Result<(), ProbeError> {
+    let input = read_input(rt.alloc(), rt.reader())?;
+    write_output(io::writer(rt), &answer(rt.alloc(), job, &input)?)
 }
 
 fn answer(alloc: Global, job: Job, input: &[u8]) -> Result<Vec<u8>, ProbeError> {
     match job {
-        Job::Rows => rows::answered(alloc, input),
-        Job::Names => Ok(names::judge(alloc, input)?),
+        Job::Rows => answered(alloc, &Libraries, input),
+        Job::Names => names::judge(alloc, input),
         Job::Mailmap => mailmaps::resolve(alloc, input),
         Job::Tree(hash) => objects::rewrite_tree(alloc, input, hash),
         Job::Commit(hash) => objects::rewrite_commit(alloc, input, hash),

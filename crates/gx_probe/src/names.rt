@@ -7,16 +7,21 @@ use probe_rows::answers::{at, order, push_field, quoted, shown, word};
 use std::alloc::Global;
 
 /// A verdict for each line of the input.
-pub fn judge(alloc: Global, input: &[u8]) -> Result<Vec<u8>, NoMemory> {
+pub fn judge(alloc: Global, input: &[u8]) -> Result<Vec<u8>, ProbeError> {
     let mut verdicts = Vec::new(alloc);
-    for name in input
+    push_verdicts(alloc, &mut verdicts, input)?;
+    Ok(verdicts)
+}
+
+fn push_verdicts(alloc: Global, verdicts: &mut Vec<u8>, names: &[u8]) -> Result<(), NoMemory> {
+    for name in names
         .strip_suffix(b"\n")
-        .unwrap_or(input)
+        .unwrap_or(names)
         .split(|byte| *byte == b'\n')
     {
         verdicts.extend_from_slice(verdict(alloc, name)?)?;
     }
-    Ok(verdicts)
+    Ok(())
 }
 
 /// Each full name is a partial one too, so the stronger verdict is given.
@@ -34,65 +39,73 @@ fn verdict(alloc: Global, name: &[u8]) -> Result<&'static [u8], NoMemory> {
 }
 
 /// The answers to rows on names of references.
-pub fn answer(
-    alloc: Global,
-    call: &[u8],
-    fields: &[Vec<u8>],
-) -> Result<Option<Vec<u8>>, ProbeError> {
+pub fn answer(alloc: Global, call: &str, fields: &[Vec<u8>]) -> Result<Vec<u8>, ProbeError> {
     match fields {
         [name] => answer_name(alloc, call, name),
         [first, second] => answer_order(alloc, call, first, second),
-        _ => Ok(None),
+        _ => Err(ProbeError::UnknownCall),
     }
 }
 
 fn answer_order(
     alloc: Global,
-    call: &[u8],
+    call: &str,
     first: &[u8],
     second: &[u8],
-) -> Result<Option<Vec<u8>>, ProbeError> {
+) -> Result<Vec<u8>, ProbeError> {
     match call {
-        b"compare_full_names" => Ok(Some(full_order(alloc, first, second)?)),
-        b"compare_partial_names" => Ok(Some(partial_order(alloc, first, second)?)),
-        _ => Ok(None),
+        "compare_full_names" => full_order(alloc, first, second),
+        "compare_partial_names" => partial_order(alloc, first, second),
+        _ => Err(ProbeError::UnknownCall),
     }
 }
 
-fn answer_name(alloc: Global, call: &[u8], name: &[u8]) -> Result<Option<Vec<u8>>, ProbeError> {
+fn answer_name(alloc: Global, call: &str, name: &[u8]) -> Result<Vec<u8>, ProbeError> {
     match call {
-        b"name_message" => Ok(Some(message(alloc, name)?)),
-        b"full_name"
-        | b"full_name_copy"
-        | b"full_name_clone"
-        | b"category"
-        | b"shorten"
-        | b"to_partial" => Ok(Some(answer_full(alloc, call, name)?)),
-        b"partial_name"
-        | b"partial_name_copy"
-        | b"partial_name_clone"
-        | b"namespace"
-        | b"namespace_copy" => Ok(Some(answer_partial(alloc, call, name)?)),
-        _ => Ok(None),
+        "name_message" => message(alloc, name),
+        "full_name"
+        | "full_name_copy"
+        | "full_name_clone"
+        | "category"
+        | "shorten"
+        | "to_partial" => answer_full(alloc, call, name),
+        "partial_name"
+        | "partial_name_copy"
+        | "partial_name_clone"
+        | "namespace"
+        | "namespace_copy" => answer_partial(alloc, call, name),
+        _ => Err(ProbeError::UnknownCall),
     }
 }
 
-fn answer_full(alloc: Global, call: &[u8], name: &[u8]) -> Result<Vec<u8>, ProbeError> {
+fn answer_full(alloc: Global, call: &str, name: &[u8]) -> Result<Vec<u8>, ProbeError> {
     match FullName::new(alloc, name) {
         Ok(name) => full_name(alloc, call, &name),
         Err(error) => refusal(alloc, error),
     }
 }
 
-fn full_name(alloc: Global, call: &[u8], name: &FullName) -> Result<Vec<u8>, ProbeError> {
+fn full_name(alloc: Global, call: &str, name: &FullName) -> Result<Vec<u8>, ProbeError> {
     match call {
-        b"category" => category(alloc, name),
-        b"shorten" => quoted(alloc, name.shorten().as_bytes()),
-        b"to_partial" => quoted(alloc, name.to_partial()?.as_slice()),
-        b"full_name_copy" => quoted(alloc, name.try_clone()?.as_slice()),
-        b"full_name_clone" => quoted(alloc, name.clone()?.as_slice()),
+        "category" => category(alloc, name),
+        "shorten" => quoted(alloc, name.shorten().as_bytes()),
+        "to_partial" => to_partial(alloc, name),
+        "full_name_copy" => full_copy(alloc, name),
+        "full_name_clone" => full_clone(alloc, name),
         _ => quoted(alloc, name.as_slice()),
     }
+}
+
+fn to_partial(alloc: Global, name: &FullName) -> Result<Vec<u8>, ProbeError> {
+    quoted(alloc, name.to_partial()?.as_slice())
+}
+
+fn full_copy(alloc: Global, name: &FullName) -> Result<Vec<u8>, ProbeError> {
+    quoted(alloc, name.try_clone()?.as_slice())
+}
+
+fn full_clone(alloc: Global, name: &FullName) -> Result<Vec<u8>, ProbeError> {
+    quoted(alloc, name.clone()?.as_slice())
 }
 
 /// The category of a name, and the name without its directory.
@@ -115,26 +128,38 @@ fn category_word(category: Category) -> &'static str {
     }
 }
 
-fn answer_partial(alloc: Global, call: &[u8], name: &[u8]) -> Result<Vec<u8>, ProbeError> {
+fn answer_partial(alloc: Global, call: &str, name: &[u8]) -> Result<Vec<u8>, ProbeError> {
     match PartialName::new(alloc, name) {
         Ok(name) => partial_name(alloc, call, &name),
         Err(error) => refusal(alloc, error),
     }
 }
 
-fn partial_name(alloc: Global, call: &[u8], name: &PartialName) -> Result<Vec<u8>, ProbeError> {
+fn partial_name(alloc: Global, call: &str, name: &PartialName) -> Result<Vec<u8>, ProbeError> {
     match call {
-        b"namespace" => quoted(alloc, expand_namespace(alloc, name)?.as_slice()),
-        b"namespace_copy" => namespace_copy(alloc, name),
-        b"partial_name_copy" => quoted(alloc, name.try_clone()?.as_slice()),
-        b"partial_name_clone" => quoted(alloc, name.clone()?.as_slice()),
+        "namespace" => namespace(alloc, name),
+        "namespace_copy" => namespace_copy(alloc, name),
+        "partial_name_copy" => partial_copy(alloc, name),
+        "partial_name_clone" => partial_clone(alloc, name),
         _ => quoted(alloc, name.as_slice()),
     }
+}
+
+fn namespace(alloc: Global, name: &PartialName) -> Result<Vec<u8>, ProbeError> {
+    quoted(alloc, expand_namespace(alloc, name)?.as_slice())
 }
 
 fn namespace_copy(alloc: Global, name: &PartialName) -> Result<Vec<u8>, ProbeError> {
     let namespace = expand_namespace(alloc, name)?;
     quoted(alloc, namespace.try_clone()?.as_bstr().as_bytes())
+}
+
+fn partial_copy(alloc: Global, name: &PartialName) -> Result<Vec<u8>, ProbeError> {
+    quoted(alloc, name.try_clone()?.as_slice())
+}
+
+fn partial_clone(alloc: Global, name: &PartialName) -> Result<Vec<u8>, ProbeError> {
+    quoted(alloc, name.clone()?.as_slice())
 }
 
 fn full_order(alloc: Global, first: &[u8], second: &[u8]) -> Result<Vec<u8>, ProbeError> {

@@ -2,7 +2,8 @@
 
 use gx_hash::{Bytes, HashKind, ObjectId, object_id};
 use gx_object::{
-    CommitRef, EncodeError, Field, Kind, SignatureRef, TagRef, TreeRef, TreeRefIter, WriteTo,
+    Commit, CommitRef, EncodeError, Field, Kind, SignatureRef, Tag, TagRef, Tree, TreeRef,
+    TreeRefIter, WriteTo,
 };
 use probe_rows::ProbeError;
 use probe_rows::answers::{numbered, push_field, push_id, push_word, quoted, word};
@@ -10,20 +11,38 @@ use std::alloc::Global;
 
 /// The tree that the bytes spell, as it is written.
 pub fn rewrite_tree(alloc: Global, bytes: &[u8], hash: HashKind) -> Result<Vec<u8>, ProbeError> {
-    let tree = TreeRef::from_bytes(alloc, bytes, hash)?.to_owned()?;
-    Ok(tree.to_bytes(alloc)?.into_vec())
+    let tree = own_tree(&TreeRef::from_bytes(alloc, bytes, hash)?)?;
+    bytes_of(tree.to_bytes(alloc))
+}
+
+fn own_tree(tree: &TreeRef<'_>) -> Result<Tree, ProbeError> {
+    Ok(tree.to_owned()?)
 }
 
 /// The commit that the bytes spell, as it is written.
 pub fn rewrite_commit(alloc: Global, bytes: &[u8], hash: HashKind) -> Result<Vec<u8>, ProbeError> {
-    let commit = CommitRef::from_bytes(alloc, bytes, hash)?.to_owned(alloc)?;
-    Ok(commit.to_bytes(alloc)?.into_vec())
+    let commit = own_commit(alloc, bytes, hash)?;
+    bytes_of(commit.to_bytes(alloc))
+}
+
+fn own_commit(alloc: Global, bytes: &[u8], hash: HashKind) -> Result<Commit, ProbeError> {
+    let commit = CommitRef::from_bytes(alloc, bytes, hash)?;
+    Ok(commit.to_owned(alloc)?)
 }
 
 /// The tag that the bytes spell, as it is written.
 pub fn rewrite_tag(alloc: Global, bytes: &[u8], hash: HashKind) -> Result<Vec<u8>, ProbeError> {
-    let tag = TagRef::from_bytes(bytes, hash)?.to_owned(alloc)?;
-    Ok(tag.to_bytes(alloc)?.into_vec())
+    let tag = own_tag(alloc, bytes, hash)?;
+    bytes_of(tag.to_bytes(alloc))
+}
+
+fn own_tag(alloc: Global, bytes: &[u8], hash: HashKind) -> Result<Tag, ProbeError> {
+    let tag = TagRef::from_bytes(bytes, hash)?;
+    Ok(tag.to_owned(alloc)?)
+}
+
+fn bytes_of(written: Result<Bytes, EncodeError>) -> Result<Vec<u8>, ProbeError> {
+    Ok(written?.into_vec())
 }
 
 /// The number of entries of the tree that the bytes spell, on a line.
@@ -52,27 +71,33 @@ pub fn size_and_id(
     written: Result<Bytes, EncodeError>,
 ) -> Result<Vec<u8>, ProbeError> {
     match written {
-        Ok(bytes) => {
-            let mut answer = numbered(alloc, "bytes", bytes.len())?;
-            push_id(
-                &mut answer,
-                &object_id(hash, kind.as_bytes(), bytes.as_slice()),
-            )?;
-            Ok(answer)
-        }
+        Ok(bytes) => size_and_id_of(alloc, hash, kind, bytes.as_slice()),
         Err(error) => unwritable(alloc, error),
     }
 }
 
+fn size_and_id_of(
+    alloc: Global,
+    hash: HashKind,
+    kind: Kind,
+    bytes: &[u8],
+) -> Result<Vec<u8>, ProbeError> {
+    let mut answer = numbered(alloc, "bytes", bytes.len())?;
+    push_id(&mut answer, &object_id(hash, kind.as_bytes(), bytes))?;
+    Ok(answer)
+}
+
 fn unwritable(alloc: Global, error: EncodeError) -> Result<Vec<u8>, ProbeError> {
     match error {
-        EncodeError::Unwritable { field } => {
-            let mut answer = word(alloc, "unwritable")?;
-            push_word(&mut answer, field_word(field))?;
-            Ok(answer)
-        }
+        EncodeError::Unwritable { field } => unwritable_field(alloc, field),
         EncodeError::NoMemory => Err(ProbeError::NoMemory),
     }
+}
+
+fn unwritable_field(alloc: Global, field: Field) -> Result<Vec<u8>, ProbeError> {
+    let mut answer = word(alloc, "unwritable")?;
+    push_word(&mut answer, field_word(field))?;
+    Ok(answer)
 }
 
 pub fn field_word(field: Field) -> &'static str {

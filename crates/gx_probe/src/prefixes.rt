@@ -6,37 +6,33 @@ use probe_rows::answers::{at, id_of, numbered, order, push_id, shown, size_of};
 use std::alloc::Global;
 
 /// The answers to rows on prefixes of ids.
-pub fn answer(
-    alloc: Global,
-    call: &[u8],
-    fields: &[Vec<u8>],
-) -> Result<Option<Vec<u8>>, ProbeError> {
+pub fn answer(alloc: Global, call: &str, fields: &[Vec<u8>]) -> Result<Vec<u8>, ProbeError> {
     match fields {
         [first] => answer_to_one(alloc, call, first),
         [first, second] => answer_to_two(alloc, call, first, second),
-        _ => Ok(None),
+        _ => Err(ProbeError::UnknownCall),
     }
 }
 
-fn answer_to_one(alloc: Global, call: &[u8], first: &[u8]) -> Result<Option<Vec<u8>>, ProbeError> {
+fn answer_to_one(alloc: Global, call: &str, first: &[u8]) -> Result<Vec<u8>, ProbeError> {
     match call {
-        b"prefix" => Ok(Some(outcome(alloc, Prefix::from_hex(first))?)),
-        b"prefix_text" => Ok(Some(text(alloc, Prefix::from_hex(first))?)),
-        b"whole_prefix" => answer_whole_prefix(alloc, first),
-        _ => Ok(None),
+        "prefix" => outcome(alloc, Prefix::from_hex(first)),
+        "prefix_text" => text(alloc, Prefix::from_hex(first)),
+        "whole_prefix" => answer_whole_prefix(alloc, first),
+        _ => Err(ProbeError::UnknownCall),
     }
 }
 
 fn answer_to_two(
     alloc: Global,
-    call: &[u8],
+    call: &str,
     first: &[u8],
     second: &[u8],
-) -> Result<Option<Vec<u8>>, ProbeError> {
+) -> Result<Vec<u8>, ProbeError> {
     match call {
-        b"prefix_of" => answer_prefix_of(alloc, first, second),
-        b"compare_prefix" => answer_order(alloc, first, second),
-        _ => Ok(None),
+        "prefix_of" => answer_prefix_of(alloc, first, second),
+        "compare_prefix" => answer_order(alloc, first, second),
+        _ => Err(ProbeError::UnknownCall),
     }
 }
 
@@ -64,23 +60,23 @@ fn text(alloc: Global, found: Result<Prefix, PrefixError>) -> Result<Vec<u8>, Pr
     }
 }
 
-fn answer_prefix_of(alloc: Global, id: &[u8], len: &[u8]) -> Result<Option<Vec<u8>>, ProbeError> {
+fn answer_prefix_of(alloc: Global, id: &[u8], len: &[u8]) -> Result<Vec<u8>, ProbeError> {
     match (id_of(id), size_of(len)) {
-        (Some(id), Some(len)) => Ok(Some(outcome(alloc, Prefix::new(&id, len))?)),
-        _ => Ok(None),
+        (Some(id), Some(len)) => outcome(alloc, Prefix::new(&id, len)),
+        _ => Err(ProbeError::UnknownCall),
     }
 }
 
-fn answer_whole_prefix(alloc: Global, id: &[u8]) -> Result<Option<Vec<u8>>, ProbeError> {
+fn answer_whole_prefix(alloc: Global, id: &[u8]) -> Result<Vec<u8>, ProbeError> {
     match id_of(id) {
-        Some(id) => Ok(Some(len_and_id(alloc, &Prefix::from(id))?)),
-        None => Ok(None),
+        Some(id) => len_and_id(alloc, &Prefix::from(id)),
+        None => Err(ProbeError::UnknownCall),
     }
 }
 
-fn answer_order(alloc: Global, digits: &[u8], id: &[u8]) -> Result<Option<Vec<u8>>, ProbeError> {
+fn answer_order(alloc: Global, digits: &[u8], id: &[u8]) -> Result<Vec<u8>, ProbeError> {
     match (Prefix::from_hex(digits), id_of(id)) {
-        (Ok(prefix), Some(id)) => Ok(Some(order(alloc, prefix.cmp_oid(&id))?)),
-        _ => Ok(None),
+        (Ok(prefix), Some(id)) => order(alloc, prefix.cmp_oid(&id)),
+        _ => Err(ProbeError::UnknownCall),
     }
 }

@@ -1,53 +1,52 @@
 //! The subjects of rows.
 
 use crate::{actors, commits, components, identities, ids, names, prefixes, tags, trees};
-use probe_rows::{ProbeError, Rows};
+use probe_rows::{Answer, ProbeError};
 use std::alloc::Global;
 
-/// The rows with what the libraries answer in place of what is expected.
-pub fn answered(alloc: Global, input: &[u8]) -> Result<Vec<u8>, ProbeError> {
-    let mut rows = Rows::new(alloc);
-    for line in input
-        .strip_suffix(b"\n")
-        .unwrap_or(input)
-        .split(|byte| *byte == b'\n')
-    {
-        if rows.read(line)? {
-            let found = answer(alloc, rows.fields());
-            rows.answer(found)?;
+/// The libraries whose calls rows make here.
+pub struct Libraries;
+
+impl Answer for Libraries {
+    /// The answer of the first subject that knows the call.
+    fn answer(&self, alloc: Global, call: &str, fields: &[Vec<u8>]) -> Result<Vec<u8>, ProbeError> {
+        match on_names(alloc, call, fields) {
+            Err(ProbeError::UnknownCall) => on_objects(alloc, call, fields),
+            found => found,
         }
     }
-    rows.into_output()
 }
 
-/// The answer of the first subject that knows the call, where one does.
-fn answer(alloc: Global, row: &[Vec<u8>]) -> Result<Option<Vec<u8>>, ProbeError> {
-    let [call, fields @ ..] = row else {
-        return Ok(None);
-    };
-    if let Some(found) = ids::answer(alloc, call, fields)? {
-        return Ok(Some(found));
+fn on_names(alloc: Global, call: &str, fields: &[Vec<u8>]) -> Result<Vec<u8>, ProbeError> {
+    match ids::answer(alloc, call, fields) {
+        Err(ProbeError::UnknownCall) => {}
+        found => return found,
     }
-    if let Some(found) = prefixes::answer(alloc, call, fields)? {
-        return Ok(Some(found));
+    match prefixes::answer(alloc, call, fields) {
+        Err(ProbeError::UnknownCall) => {}
+        found => return found,
     }
-    if let Some(found) = names::answer(alloc, call, fields)? {
-        return Ok(Some(found));
+    match names::answer(alloc, call, fields) {
+        Err(ProbeError::UnknownCall) => components::answer(alloc, call, fields),
+        found => found,
     }
-    if let Some(found) = components::answer(alloc, call, fields)? {
-        return Ok(Some(found));
+}
+
+fn on_objects(alloc: Global, call: &str, fields: &[Vec<u8>]) -> Result<Vec<u8>, ProbeError> {
+    match identities::answer(alloc, call, fields) {
+        Err(ProbeError::UnknownCall) => {}
+        found => return found,
     }
-    if let Some(found) = identities::answer(alloc, call, fields)? {
-        return Ok(Some(found));
+    match trees::answer(alloc, call, fields) {
+        Err(ProbeError::UnknownCall) => {}
+        found => return found,
     }
-    if let Some(found) = trees::answer(alloc, call, fields)? {
-        return Ok(Some(found));
+    match commits::answer(alloc, call, fields) {
+        Err(ProbeError::UnknownCall) => {}
+        found => return found,
     }
-    if let Some(found) = commits::answer(alloc, call, fields)? {
-        return Ok(Some(found));
+    match tags::answer(alloc, call, fields) {
+        Err(ProbeError::UnknownCall) => actors::answer(alloc, call, fields),
+        found => found,
     }
-    if let Some(found) = tags::answer(alloc, call, fields)? {
-        return Ok(Some(found));
-    }
-    actors::answer(alloc, call, fields)
 }

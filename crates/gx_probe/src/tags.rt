@@ -1,49 +1,40 @@
 //! Rows on tags. A tag that is written is told by its target's id and kind, its name, its tagger by four fields or
 //! the one field `none`, its message, and its signature or `none`.
 
-use crate::commits::text_of;
+use crate::fields::{hash_in, id_in, kind_in, split_fields, text_in};
 use crate::identities::identity_in;
 use crate::objects::{
     Cuts, push_named_id, push_part, push_who, rewrite_tag, size_and_id, spelled, texts,
 };
 use gx_hash::{Bytes, HashKind};
-use gx_object::{Kind, Signature, Tag, TagRef, TagRefIter, TagToken, WriteTo};
+use gx_object::{Signature, Tag, TagRef, TagRefIter, TagToken, WriteTo};
 use probe_rows::ProbeError;
-use probe_rows::answers::{again, hash_of, hex, id_of, push_failure, push_field, push_word, word};
+use probe_rows::answers::{again, hex, push_failure, push_word, word};
 use std::alloc::Global;
 
 /// The answers to rows on tags.
-pub fn answer(
-    alloc: Global,
-    call: &[u8],
-    fields: &[Vec<u8>],
-) -> Result<Option<Vec<u8>>, ProbeError> {
-    let [hash, fields @ ..] = fields else {
-        return Ok(None);
-    };
-    let Some(hash) = hash_of(hash) else {
-        return Ok(None);
-    };
+pub fn answer(alloc: Global, call: &str, fields: &[Vec<u8>]) -> Result<Vec<u8>, ProbeError> {
     match fields {
-        [bytes] => answer_read(alloc, call, hash, bytes),
-        _ => answer_written(alloc, call, hash, fields),
+        [hash, bytes] => answer_read(alloc, call, hash_in(hash)?, bytes),
+        [hash, fields @ ..] => answer_written(alloc, call, hash_in(hash)?, fields),
+        _ => Err(ProbeError::UnknownCall),
     }
 }
 
 fn answer_read(
     alloc: Global,
-    call: &[u8],
+    call: &str,
     hash: HashKind,
     bytes: &[u8],
-) -> Result<Option<Vec<u8>>, ProbeError> {
+) -> Result<Vec<u8>, ProbeError> {
     match call {
-        b"tag" => Ok(Some(read_tag(alloc, hash, bytes)?)),
-        b"tag_again" => Ok(Some(read_again(alloc, hash, bytes)?)),
-        b"tag_items" => Ok(Some(items(alloc, hash, bytes)?)),
-        b"tag_cuts" => Ok(Some(cuts(alloc, hash, bytes)?)),
-        b"tag_target" => Ok(Some(target(alloc, hash, bytes)?)),
-        b"tag_tagger" => Ok(Some(tagger(alloc, hash, bytes)?)),
-        _ => Ok(None),
+        "tag" => read_tag(alloc, hash, bytes),
+        "tag_again" => read_again(alloc, hash, bytes),
+        "tag_items" => items(alloc, hash, bytes),
+        "tag_cuts" => cuts(alloc, hash, bytes),
+        "tag_target" => target(alloc, hash, bytes),
+        "tag_tagger" => tagger(alloc, hash, bytes),
+        _ => Err(ProbeError::UnknownCall),
     }
 }
 
@@ -57,18 +48,27 @@ fn target(alloc: Global, hash: HashKind, bytes: &[u8]) -> Result<Vec<u8>, ProbeE
 
 fn read_tag(alloc: Global, hash: HashKind, bytes: &[u8]) -> Result<Vec<u8>, ProbeError> {
     let tag = TagRef::from_bytes(bytes, hash)?;
-    let mut answer = word(alloc, "object")?;
-    push_field(&mut answer, tag.target.as_bytes())?;
-    push_part(&mut answer, "type", tag.target_kind.as_bytes())?;
-    push_part(&mut answer, "tag", tag.name.as_bytes())?;
-    if let Some(tagger) = &tag.tagger {
-        push_who(&mut answer, "tagger", tagger)?;
-    }
-    push_part(&mut answer, "message", tag.message.as_bytes())?;
-    if let Some(signature) = tag.signature {
-        push_part(&mut answer, "signature", signature.as_bytes())?;
-    }
+    let mut answer = Vec::new(alloc);
+    push_head(&mut answer, &tag)?;
+    push_body(&mut answer, &tag)?;
     Ok(answer)
+}
+
+fn push_head(answer: &mut Vec<u8>, tag: &TagRef<'_>) -> Result<(), ProbeError> {
+    push_part(answer, "object", tag.target.as_bytes())?;
+    push_part(answer, "type", tag.target_kind.as_bytes())?;
+    push_part(answer, "tag", tag.name.as_bytes())
+}
+
+fn push_body(answer: &mut Vec<u8>, tag: &TagRef<'_>) -> Result<(), ProbeError> {
+    if let Some(tagger) = &tag.tagger {
+        push_who(answer, "tagger", tagger)?;
+    }
+    push_part(answer, "message", tag.message.as_bytes())?;
+    match tag.signature {
+        Some(signature) => push_part(answer, "signature", signature.as_bytes()),
+        None => Ok(()),
+    }
 }
 
 /// The parts that the iterator gives, the error after them if there is one, and `end`.
@@ -119,56 +119,63 @@ fn tagger(alloc: Global, hash: HashKind, bytes: &[u8]) -> Result<Vec<u8>, ProbeE
 
 fn answer_written(
     alloc: Global,
-    call: &[u8],
+    call: &str,
     hash: HashKind,
     fields: &[Vec<u8>],
-) -> Result<Option<Vec<u8>>, ProbeError> {
-    let Some(tag) = tag_of(alloc, fields)? else {
-        return Ok(None);
-    };
+) -> Result<Vec<u8>, ProbeError> {
     match call {
-        b"write_tag" => Ok(Some(spelled(alloc, tag.to_bytes(alloc))?)),
-        b"tag_id" => Ok(Some(size_and_id(alloc, hash, tag.kind(), tag.to_bytes(alloc))?)),
-        _ => Ok(None),
+        "write_tag" => written(alloc, fields),
+        "tag_id" => id_of_written(alloc, hash, fields),
+        _ => Err(ProbeError::UnknownCall),
     }
 }
 
-fn tag_of(alloc: Global, fields: &[Vec<u8>]) -> Result<Option<Tag>, ProbeError> {
-    let Some((places, fields)) = fields.split_at_checked(3) else {
-        return Ok(None);
-    };
-    match fields {
-        [tagger, message, signature] if tagger.as_slice() == b"none".as_slice() => {
-            make_tag(alloc, places, None, message, signature)
-        }
-        [tagger @ .., message, signature] => match identity_in(alloc, tagger)? {
-            Some(tagger) => make_tag(alloc, places, Some(tagger), message, signature),
-            None => Ok(None),
-        },
-        _ => Ok(None),
-    }
+fn written(alloc: Global, fields: &[Vec<u8>]) -> Result<Vec<u8>, ProbeError> {
+    let tag = tag_in(alloc, fields)?;
+    spelled(alloc, tag.to_bytes(alloc))
 }
 
-/// The tag of the fields of its target, its target's kind and its name, and of these.
-fn make_tag(
-    alloc: Global,
-    places: &[Vec<u8>],
-    tagger: Option<Signature>,
-    message: &[u8],
-    signature: &[u8],
-) -> Result<Option<Tag>, ProbeError> {
+fn id_of_written(alloc: Global, hash: HashKind, fields: &[Vec<u8>]) -> Result<Vec<u8>, ProbeError> {
+    let tag = tag_in(alloc, fields)?;
+    size_and_id(alloc, hash, tag.kind(), tag.to_bytes(alloc))
+}
+
+fn tag_in(alloc: Global, fields: &[Vec<u8>]) -> Result<Tag, ProbeError> {
+    let (places, texts) = split_fields(fields, 3)?;
+    let mut tag = tag_at(alloc, places)?;
+    set_texts(alloc, &mut tag, texts)?;
+    Ok(tag)
+}
+
+/// The tag of a target, its kind and a name, without a tagger and texts.
+fn tag_at(alloc: Global, places: &[Vec<u8>]) -> Result<Tag, ProbeError> {
     let [target, kind, name] = places else {
-        return Ok(None);
+        return Err(ProbeError::UnknownCall);
     };
-    let (Some(target), Some(target_kind)) = (id_of(target), Kind::from_bytes(kind)) else {
-        return Ok(None);
-    };
-    Ok(Some(Tag {
-        target,
-        target_kind,
+    Ok(Tag {
+        target: id_in(target)?,
+        target_kind: kind_in(kind)?,
         name: Bytes::from_slice(alloc, name)?,
-        tagger,
-        message: Bytes::from_slice(alloc, message)?,
-        signature: text_of(alloc, signature)?,
-    }))
+        tagger: None,
+        message: Bytes::from_vec(Vec::new(alloc)),
+        signature: None,
+    })
+}
+
+fn set_texts(alloc: Global, tag: &mut Tag, texts: &[Vec<u8>]) -> Result<(), ProbeError> {
+    let [tagger @ .., message, signature] = texts else {
+        return Err(ProbeError::UnknownCall);
+    };
+    tag.tagger = tagger_in(alloc, tagger)?;
+    tag.message = Bytes::from_slice(alloc, message)?;
+    tag.signature = text_in(alloc, signature)?;
+    Ok(())
+}
+
+/// The tagger of four fields, or none of the one field `none`.
+fn tagger_in(alloc: Global, fields: &[Vec<u8>]) -> Result<Option<Signature>, ProbeError> {
+    match fields {
+        [word] if word.as_slice() == b"none".as_slice() => Ok(None),
+        _ => Ok(Some(identity_in(alloc, fields)?)),
+    }
 }

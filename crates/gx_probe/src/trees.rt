@@ -1,70 +1,64 @@
 //! Rows on trees, their entries and their modes. An entry's fields are its mode in octal, its name and its id.
 
+use crate::fields::{hash_in, id_in};
 use crate::objects::{Cuts, rewrite_tree, size_and_id, spelled};
 use gx_hash::{Bytes, HashKind};
 use gx_object::{
-    Blob, Entries, Entry, EntryKind, EntryMode, EntryRef, Kind, Tree, TreeRef, TreeRefIter,
-    WriteTo, push_entry, push_tree,
+    Blob, EncodeError, Entries, Entry, EntryKind, EntryMode, EntryRef, Kind, Tree, TreeRef,
+    TreeRefIter, WriteTo, push_entry, push_tree,
 };
 use probe_rows::ProbeError;
 use probe_rows::answers::{
-    again, hash_of, id_of, push_failure, push_field, push_id, push_word, quoted, shown, word,
+    again, push_failure, push_field, push_id, push_word, quoted, shown, word,
 };
 use std::alloc::Global;
 
 /// The answers to rows on trees.
-pub fn answer(
-    alloc: Global,
-    call: &[u8],
-    fields: &[Vec<u8>],
-) -> Result<Option<Vec<u8>>, ProbeError> {
+pub fn answer(alloc: Global, call: &str, fields: &[Vec<u8>]) -> Result<Vec<u8>, ProbeError> {
     let [first, others @ ..] = fields else {
-        return Ok(None);
+        return Err(ProbeError::UnknownCall);
     };
     match call {
-        b"encode_message" => answer_encode_message(alloc, first),
-        b"mode" => answer_mode(alloc, first),
-        b"mode_of" => Ok(Some(answer_mode_of(alloc, first)?)),
-        b"kind" => Ok(Some(answer_kind(alloc, first)?)),
-        b"entry" => answer_entry(alloc, fields),
-        _ => match hash_of(first) {
-            Some(hash) => answer_in(alloc, call, hash, others),
-            None => Ok(None),
-        },
+        "encode_message" => answer_encode_message(alloc, first),
+        "mode" => answer_mode(alloc, first),
+        "mode_of" => answer_mode_of(alloc, first),
+        "kind" => answer_kind(alloc, first),
+        "entry" => answer_entry(alloc, fields),
+        _ => answer_in(alloc, call, hash_in(first)?, others),
     }
 }
 
 fn answer_in(
     alloc: Global,
-    call: &[u8],
+    call: &str,
     hash: HashKind,
     fields: &[Vec<u8>],
-) -> Result<Option<Vec<u8>>, ProbeError> {
+) -> Result<Vec<u8>, ProbeError> {
     match call {
-        b"write_tree" => answer_written(alloc, fields),
-        b"push_tree" => answer_pushed(alloc, fields),
-        b"tree_id" => answer_tree_id(alloc, hash, fields),
+        "write_tree" => answer_written(alloc, fields),
+        "push_tree" => answer_pushed(alloc, fields),
+        "tree_id" => answer_tree_id(alloc, hash, fields),
         _ => match fields {
             [bytes] => answer_read(alloc, call, hash, bytes),
-            _ => Ok(None),
+            _ => Err(ProbeError::UnknownCall),
         },
     }
 }
 
 fn answer_read(
     alloc: Global,
-    call: &[u8],
+    call: &str,
     hash: HashKind,
     bytes: &[u8],
-) -> Result<Option<Vec<u8>>, ProbeError> {
+) -> Result<Vec<u8>, ProbeError> {
     match call {
-        b"blob_id" => Ok(Some(blob_id(alloc, hash, bytes)?)),
-        b"tree" => Ok(Some(read_tree(alloc, hash, bytes)?)),
-        b"tree_items" => Ok(Some(items(alloc, hash, bytes)?)),
-        b"tree_again" => Ok(Some(read_again(alloc, hash, bytes)?)),
-        b"decode_message" => decode_message(alloc, hash, bytes),
-        b"tree_cuts" => Ok(Some(cuts(alloc, hash, bytes)?)),
-        _ => Ok(None),
+        "blob_id" => blob_id(alloc, hash, bytes),
+        "tree" => read_tree(alloc, hash, bytes),
+        "tree_items" => items(alloc, hash, bytes),
+        "tree_again" => read_again(alloc, hash, bytes),
+        "decode_message" => decode_message(alloc, hash, bytes),
+        "tree_cuts" => cuts(alloc, hash, bytes),
+        _ => Err(ProbeError::UnknownCall),
     }
 }
 
@@ -74,8 +68,12 @@ fn read_again(alloc: Global, hash: HashKind, bytes: &[u8]) -> Result<Vec<u8>, Pr
 
 fn read_tree(alloc: Global, hash: HashKind, bytes: &[u8]) -> Result<Vec<u8>, ProbeError> {
     let tree = TreeRef::from_bytes(alloc, bytes, hash)?;
+    shown_entries(alloc, tree.entries.as_slice())
+}
+
+fn shown_entries(alloc: Global, entries: &[EntryRef<'_>]) -> Result<Vec<u8>, ProbeError> {
     let mut answer = Vec::new(alloc);
-    for entry in tree.entries.as_slice() {
+    for entry in entries {
         push_ref(alloc, &mut answer, entry)?;
     }
     Ok(answer)
@@ -111,21 +109,21 @@ fn cuts(alloc: Global, hash: HashKind, bytes: &[u8]) -> Result<Vec<u8>, ProbeErr
     cuts.into_answer()
 }
 
-fn answer_written(alloc: Global, entries: &[Vec<u8>]) -> Result<Option<Vec<u8>>, ProbeError> {
-    match tree_of(alloc, entries)? {
-        Some(tree) => Ok(Some(spelled(alloc, tree.to_bytes(alloc))?)),
-        None => Ok(None),
-    }
+fn answer_written(alloc: Global, entries: &[Vec<u8>]) -> Result<Vec<u8>, ProbeError> {
+    let tree = tree_in(alloc, entries)?;
+    spelled(alloc, tree.to_bytes(alloc))
 }
 
 /// The bytes of the entries, whatever their names are.
-fn answer_pushed(alloc: Global, entries: &[Vec<u8>]) -> Result<Option<Vec<u8>>, ProbeError> {
-    let Some(tree) = tree_of(alloc, entries)? else {
-        return Ok(None);
-    };
+fn answer_pushed(alloc: Global, entries: &[Vec<u8>]) -> Result<Vec<u8>, ProbeError> {
+    let tree = tree_in(alloc, entries)?;
+    pushed(alloc, tree.entries.as_slice())
+}
+
+fn pushed(alloc: Global, entries: &[Entry]) -> Result<Vec<u8>, ProbeError> {
     let mut out = Vec::new(alloc);
-    push_tree(&mut out, tree.entries.as_slice())?;
-    Ok(Some(quoted(alloc, &out)?))
+    push_tree(&mut out, entries)?;
+    quoted(alloc, &out)
 }
 
 fn blob_id(alloc: Global, hash: HashKind, bytes: &[u8]) -> Result<Vec<u8>, ProbeError> {
@@ -139,39 +137,35 @@ fn answer_tree_id(
     alloc: Global,
     hash: HashKind,
     entries: &[Vec<u8>],
-) -> Result<Option<Vec<u8>>, ProbeError> {
-    match tree_of(alloc, entries)? {
-        Some(tree) => Ok(Some(size_and_id(alloc, hash, tree.kind(), tree.to_bytes(alloc))?)),
-        None => Ok(None),
-    }
+) -> Result<Vec<u8>, ProbeError> {
+    let tree = tree_in(alloc, entries)?;
+    size_and_id(alloc, hash, tree.kind(), tree.to_bytes(alloc))
 }
 
-fn tree_of(alloc: Global, fields: &[Vec<u8>]) -> Result<Option<Tree>, ProbeError> {
+fn tree_in(alloc: Global, fields: &[Vec<u8>]) -> Result<Tree, ProbeError> {
     let mut entries = Vec::new(alloc);
     for fields in fields.chunks(3) {
-        match entry_of(alloc, fields)? {
-            Some(entry) => entries.push(entry)?,
-            None => return Ok(None),
-        }
+        entries.push(entry_in(alloc, fields)?)?;
     }
-    Ok(Some(Tree {
+    Ok(Tree {
         entries: Entries::from_vec(entries),
-    }))
+    })
 }
 
 /// The entry that three fields are.
-fn entry_of(alloc: Global, fields: &[Vec<u8>]) -> Result<Option<Entry>, ProbeError> {
+fn entry_in(alloc: Global, fields: &[Vec<u8>]) -> Result<Entry, ProbeError> {
     let [mode, name, id] = fields else {
-        return Ok(None);
+        return Err(ProbeError::UnknownCall);
     };
-    let (Some(mode), Some(oid)) = (mode_from(mode), id_of(id)) else {
-        return Ok(None);
-    };
-    Ok(Some(Entry {
-        mode,
+    Ok(Entry {
+        mode: mode_in(mode)?,
+        oid: id_in(id)?,
         filename: Bytes::from_slice(alloc, name)?,
-        oid,
-    }))
+    })
+}
+
+fn mode_in(digits: &[u8]) -> Result<EntryMode, ProbeError> {
+    mode_from(digits).ok_or(ProbeError::UnknownCall)
 }
 
 fn mode_from(digits: &[u8]) -> Option<EntryMode> {
@@ -180,46 +174,52 @@ fn mode_from(digits: &[u8]) -> Option<EntryMode> {
 }
 
 /// The bytes of the entry alone, whatever its name is.
-fn answer_entry(alloc: Global, fields: &[Vec<u8>]) -> Result<Option<Vec<u8>>, ProbeError> {
-    let Some(entry) = entry_of(alloc, fields)? else {
-        return Ok(None);
-    };
+fn answer_entry(alloc: Global, fields: &[Vec<u8>]) -> Result<Vec<u8>, ProbeError> {
+    let entry = entry_in(alloc, fields)?;
     let mut out = Vec::new(alloc);
     push_entry(&mut out, &entry)?;
-    Ok(Some(quoted(alloc, &out)?))
+    quoted(alloc, &out)
 }
 
 /// What the mode says that the entry is: in a listing's word, and by each question.
-fn answer_mode(alloc: Global, digits: &[u8]) -> Result<Option<Vec<u8>>, ProbeError> {
-    let Some(mode) = mode_from(digits) else {
-        return Ok(None);
-    };
+fn answer_mode(alloc: Global, digits: &[u8]) -> Result<Vec<u8>, ProbeError> {
+    let mode = mode_in(digits)?;
     let mut answer = word(alloc, mode.as_str())?;
     push_word(&mut answer, mode.kind().as_octal_str())?;
-    for (holds, text) in [
-        (mode.is_tree(), "is-tree"),
-        (mode.is_blob(), "is-blob"),
-        (mode.is_link(), "is-link"),
-        (mode.is_commit(), "is-commit"),
-    ] {
-        if holds {
-            push_word(&mut answer, text)?;
-        }
+    push_where(&mut answer, mode.is_tree(), "is-tree")?;
+    push_where(&mut answer, mode.is_blob(), "is-blob")?;
+    push_where(&mut answer, mode.is_link(), "is-link")?;
+    push_where(&mut answer, mode.is_commit(), "is-commit")?;
+    Ok(answer)
+}
+
+fn push_where(answer: &mut Vec<u8>, holds: bool, text: &str) -> Result<(), ProbeError> {
+    if holds {
+        push_word(answer, text)?;
     }
-    Ok(Some(answer))
+    Ok(())
 }
 
 /// The mode of such an entry.
 fn answer_mode_of(alloc: Global, name: &[u8]) -> Result<Vec<u8>, ProbeError> {
-    let kind = match name {
-        b"tree" => EntryKind::Tree,
-        b"blob" => EntryKind::Blob,
-        b"exe" => EntryKind::BlobExecutable,
-        b"link" => EntryKind::Link,
-        b"commit" => EntryKind::Commit,
-        _ => return word(alloc, "none"),
-    };
-    let mode = EntryMode::from(kind).value();
+    match kind_of(name) {
+        Some(kind) => octal(alloc, EntryMode::from(kind).value()),
+        None => word(alloc, "none"),
+    }
+}
+
+fn kind_of(name: &[u8]) -> Option<EntryKind> {
+    match str::from_utf8(name).ok()? {
+        "tree" => Some(EntryKind::Tree),
+        "blob" => Some(EntryKind::Blob),
+        "exe" => Some(EntryKind::BlobExecutable),
+        "link" => Some(EntryKind::Link),
+        "commit" => Some(EntryKind::Commit),
+        _ => None,
+    }
+}
+
+fn octal(alloc: Global, mode: u16) -> Result<Vec<u8>, ProbeError> {
     Ok(format!(in alloc; "{mode:o}")?.into_bytes())
 }
 
@@ -232,30 +232,36 @@ fn answer_kind(alloc: Global, name: &[u8]) -> Result<Vec<u8>, ProbeError> {
 }
 
 /// The words on why the bytes are no tree.
-fn decode_message(
-    alloc: Global,
-    hash: HashKind,
-    bytes: &[u8],
-) -> Result<Option<Vec<u8>>, ProbeError> {
+fn decode_message(alloc: Global, hash: HashKind, bytes: &[u8]) -> Result<Vec<u8>, ProbeError> {
     match TreeRef::from_bytes(alloc, bytes, hash) {
-        Ok(_) => Ok(None),
-        Err(error) => Ok(Some(shown(alloc, &error)?)),
+        Ok(_) => Err(ProbeError::UnknownCall),
+        Err(error) => shown(alloc, &error),
     }
 }
 
 /// The words on why no tree has an entry of the name.
-fn answer_encode_message(alloc: Global, name: &[u8]) -> Result<Option<Vec<u8>>, ProbeError> {
-    let mut entries = Vec::new(alloc);
-    entries.push(Entry {
+fn answer_encode_message(alloc: Global, name: &[u8]) -> Result<Vec<u8>, ProbeError> {
+    let tree = tree_with(alloc, name)?;
+    unwritten(alloc, tree.to_bytes(alloc))
+}
+
+fn unwritten(alloc: Global, written: Result<Bytes, EncodeError>) -> Result<Vec<u8>, ProbeError> {
+    match written {
+        Ok(_) => Err(ProbeError::UnknownCall),
+        Err(error) => shown(alloc, &error),
+    }
+}
+
+/// The tree of an empty file of the name.
+fn tree_with(alloc: Global, name: &[u8]) -> Result<Tree, ProbeError> {
+    let entry = Entry {
         mode: EntryMode::from(EntryKind::Blob),
         filename: Bytes::from_slice(alloc, name)?,
         oid: HashKind::Sha1.empty_blob(),
-    })?;
-    let tree = Tree {
-        entries: Entries::from_vec(entries),
     };
-    match tree.to_bytes(alloc) {
-        Ok(_) => Ok(None),
-        Err(error) => Ok(Some(shown(alloc, &error)?)),
-    }
+    let mut entries = Vec::new(alloc);
+    entries.push(entry)?;
+    Ok(Tree {
+        entries: Entries::from_vec(entries),
+    })
 }

@@ -1,5 +1,5 @@
 -- The loop that follows a chain.
-use Rattle.std.proofs.Common.{◌≡◌, ◌+◌, ◌<◌, sym, refl, subst, ℕ, true, false, List, [], ◌∷◌, ◌++◌, length, Option, Some, None, IfSome, arith}
+use Rattle.std.proofs.Common.{◌≡◌, ◌<◌, sym, refl, subst, ℕ, true, false, List, [], ◌∷◌, ◌++◌, length, Option, Some, None, IfSome, arith}
 use Rattle.std.specs.FinMap.{get}
 use Rattle.gx_store.specs.State.{StoreState, RefState, IsUnreadable, OfFault}
 use Rattle.gx_store.specs.declared.target.Target.{Target}

@@ -35,7 +35,7 @@ meets targets name before end w on = go (get targets end) refl
     go (Some (target.Object id)) e = (Ending, before ++ end ∷ [], (end, Some (target.Object id), record { walks = walks; is = sym e; stops = tt }))
     go (Some (target.Symbolic next)) e = known next e _ refl
 
--- so many steps may still be taken
+-- this many steps may still be taken
 from : (steps : ℕ) (targets : FinMap name_cmp Target) (name : List ℕ) (before : List (List ℕ)) (end : List ℕ) → IsWalked targets name (before ++ end ∷ []) → length before + steps ≡ 5 → MeetsSome targets name
 from zero targets name before end w room = meets targets name before end w (λ next leads new. (
   TooDeep,
@@ -65,7 +65,7 @@ walked_of targets name TooDeep names m = m.walks.walked
 ends_leads : (targets : FinMap name_cmp Target) (end next : List ℕ) (found : Option Target) → found ≡ get targets end → IsEnd found → LeadsTo targets end next → ⊥
 ends_leads targets end next found is stops leads = subst IsEnd (is ∙ leads) stops
 
--- behind the names of a fate no further one is walked
+-- after the names of a fate no further one is walked
 stop : (targets : FinMap name_cmp Target) (name : List ℕ) (fate : Fate) (names : List (List ℕ)) → Meets targets name fate names → (next : List ℕ) (more : List (List ℕ)) → IsWalked targets name (names ++ next ∷ more) → ⊥
 stop targets name Ending names (end, found, m) next more w =
     ends_leads targets end next found m.is m.stops (step_behind targets names m.walks.before end next more m.walks.last w.path)

@@ -1,5 +1,5 @@
 -- Paths of symbolic references, and how they go on.
-use Rattle.std.proofs.Common.{◌≡◌, ◌∙◌, ◌+◌, ◌<◌, sym, ap, refl, subst, ℕ, false, List, [], ◌∷◌, ◌++◌, length, Some, inl, inr, ◌⊎◌, arith}
+use Rattle.std.proofs.Common.{◌≡◌, ◌∙◌, ◌<◌, sym, ap, refl, subst, ℕ, false, List, [], ◌∷◌, ◌++◌, length, Some, inl, inr, ◌⊎◌, arith}
 use Rattle.std.proofs.Math.Seq.{append_snoc}
 use Rattle.std.proofs.lemmas.List.{length-append}
 use Rattle.std.specs.FinMap.{FinMap}
@@ -28,11 +28,11 @@ step_behind targets names before end next more last p =
 pub one_target : (targets : FinMap name_cmp Target) (name a b : List ℕ) → LeadsTo targets name a → LeadsTo targets name b → a ≡ b
 one_target targets name a b p q = let e : Some (target.Symbolic a) ≡ Some (target.Symbolic b) = sym p ∙ q in cc
 
--- the second list goes on behind the first
+-- the second list goes on after the first
 abbrev pub GoesOn : List (List ℕ) → List (List ℕ) → Type 0
 GoesOn xs ys = (next : List ℕ) × (more : List (List ℕ)) × (ys ≡ xs ++ next ∷ more)
 
--- Of two paths from one name one goes on behind the other, or they are one.
+-- Of two paths from one name one goes on after the other, or they are one.
 pub one_way : (targets : FinMap name_cmp Target) (name : List ℕ) (xs ys : List (List ℕ)) → IsPath targets (name ∷ xs) → IsPath targets (name ∷ ys) → (xs ≡ ys) ⊎ (GoesOn xs ys ⊎ GoesOn ys xs)
 one_way targets name [] [] p q = inl refl
 one_way targets name [] (b ∷ ys) p q = inr (inl (b, ys, refl))

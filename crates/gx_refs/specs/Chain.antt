@@ -15,7 +15,7 @@ use Rattle.gx_refs.specs.declared.error.RefError.TheVariants.{Cycle, DepthLimitE
 abbrev pub is_among : List ℕ → List (List ℕ) → Bool
 is_among name names = list_any (λ other. bytes_eq other name) names
 
--- no name stands twice
+-- no name is there twice
 abbrev pub AreDistinct : List (List ℕ) → Type 0
 AreDistinct [] = Unit {0}
 AreDistinct (name ∷ names) = (is_among name names ≡ false) × AreDistinct names
@@ -24,7 +24,7 @@ AreDistinct (name ∷ names) = (is_among name names ≡ false) × AreDistinct na
 abbrev pub LeadsTo : FinMap name_cmp Target → List ℕ → List ℕ → Type 0
 LeadsTo targets name next = get targets name ≡ Some (target.Symbolic next)
 
--- each name but the last leads to the one behind it
+-- each name but the last leads to the one after it
 abbrev pub IsPath : FinMap name_cmp Target → List (List ℕ) → Type 0
 IsPath targets [] = Unit {0}
 IsPath targets (name ∷ []) = Unit {0}
@@ -98,7 +98,7 @@ IsChainFault state name what.Index = ⊥
 IsChainFault state name what.Listing = ⊥
 IsChainFault state name what.Write = ⊥
 
--- Why a name has no chain. Want of memory needs no cause.
+-- Why a name has no chain. Lack of memory needs no cause.
 abbrev pub ChainCauses : StoreState → List ℕ → RefError → Type 0
 ChainCauses state name (Cycle kept) = (kept ≡ name) × IfSome state.references (λ refs. Cycles refs.targets name)
 ChainCauses state name (DepthLimitExceeded kept) = (kept ≡ name) × IfSome state.references (λ refs. IsTooDeep refs.targets name)

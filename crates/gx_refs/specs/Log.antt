@@ -35,7 +35,8 @@ GoesByLog mode force name = (is_due_where mode force false name ≡ false) × (i
 abbrev pub IsLogFault : StoreState → WriteReflog → Bool → List ℕ → What → Type 0
 IsLogFault state mode force name fault = GoesByLog mode force name × IsUnreadable state (what.Name name) fault
 
--- A newline in a message is a space in the log, whose lines are parted by newlines. (Ours; Git, refs.c, "copy_reflog_msg", draws other white space together too.)
+-- A newline in a message is a space in the log, whose lines are separated by newlines. (Ours; Git, refs.c,
+-- "copy_reflog_msg", draws other white space together too.)
 abbrev pub one_line : List ℕ → List ℕ
 one_line message = map (λ byte. if byte == 10 then 32 else byte) message
 

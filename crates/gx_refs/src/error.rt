@@ -13,7 +13,7 @@ pub enum RefError {
     /// The reference's symbolic targets lead back to one of them.
     #[error("the reference leads back into itself")]
     Cycle { name: FullName },
-    /// More than five symbolic references stand one behind the other.
+    /// More than five symbolic references follow one another.
     #[error("the reference leads through too many others")]
     DepthLimitExceeded { name: FullName },
     #[error("the store failed at {what:?}")]

@@ -3,7 +3,7 @@ use Rattle.std.proofs.Common.{◌≡◌, ◌≢◌, ◌<◌, ℕ, List, ap, arit
 use Rattle.std.proofs.lemmas.Bool.{cases_order}
 use Rattle.gx_rules.specs.declared.name_error.NameError.{NameError}
 use Rattle.gx_rules.specs.declared.name_error.NameError.TheVariants.{Empty, InvalidByte, RepeatedDot, ReflogPortion, StartsWithSlash, EndsWithSlash, RepeatedSlash, StartsWithDot, LockFileSuffix, EndsWithDot, SingleAt, SomeLowercase, NoMemory}
-use Rattle.gx_rules.specs.Name.{Breaks, rank, IsFirstPlace, IsFirstBroken, IsPartialName}
+use Rattle.gx_rules.specs.Name.{Breaks, rank, IsFirstPlace, IsFirstBroken, IsFullName, IsPartialName}
 use Rattle.gx_rules.specs.Rules.{Keeps, BreaksFirst}
 use Rattle.gx_rules.proofs.RuleLemmas.{one_first}
 
@@ -53,6 +53,10 @@ is_partial_name name keeps EndsWithDot apart = keeps EndsWithDot (omega arith) (
 is_partial_name name keeps SingleAt apart = keeps SingleAt (omega arith) (omega arith)
 is_partial_name name keeps SomeLowercase apart = absurd (apart refl)
 is_partial_name name keeps NoMemory apart = λ broken. broken
+
+-- a full name is a partial one
+pub full_is_partial : (name : List ℕ) → IsFullName name → IsPartialName name
+full_is_partial name full error other = full error
 
 -- the first of these rules that a name breaks is the first of all, and not the last
 pub is_first_of_partial : (name : List ℕ) (error : NameError) → BreaksFirst (Breaks name) rank 0 11 error → IsFirstBroken name error × (error ≢ SomeLowercase)

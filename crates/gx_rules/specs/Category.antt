@@ -5,8 +5,8 @@ use Rattle.gx_rules.specs.declared.category.Category.{Category}
 use Rattle.gx_rules.specs.declared.category.Category.TheVariants.{Tag, LocalBranch, RemoteBranch, Note, PseudoRef}
 
 -- Tags are under `refs/tags/`, branches under `refs/heads/`, remote-tracking branches under `refs/remotes/`, notes
--- under
--- `refs/notes/`, and pseudo references, as `HEAD`, outside of any directory. (gitglossary(7), "ref"; git-notes(1))
+-- under `refs/notes/`, and pseudo references, as `HEAD`, outside of any directory.
+-- (gitglossary(7), "ref"; git-notes(1))
 abbrev pub category_of : List ℕ → Option Category
 category_of name =
     if starts_with nat_eq name (codes "refs/tags/") then Some Tag
@@ -30,7 +30,7 @@ shared_prefix None = codes ""
 abbrev pub short_name : List ℕ → List ℕ
 short_name name = drop (length (shared_prefix (category_of name))) name
 
--- the name is in the directory: the directory's path stands in front
+-- the name is in the directory: it begins with the directory's path
 abbrev pub IsIn : List ℕ → List ℕ → Type 0
 IsIn directory name = (rest : List ℕ) × (name ≡ directory ++ rest)
 

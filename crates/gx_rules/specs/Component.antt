@@ -1,7 +1,7 @@
 -- The rule of names in a tree: which of them may be checked out into a folder. The protections are Git's
 -- `core.protectHFS` and `core.protectNTFS` (git-config(1)), and what Windows says of the names of its files ("Naming
 -- Files, Paths, and Namespaces").
-use Rattle.std.specs.Prelude.{◌≡◌, ℕ, ◌<◌, ◌&&◌, ◌||◌, ◌==◌, Bool, true, if◌then◌else◌, not, nat_lt, nat_le, nat_eq, IsTrue, List, [], ◌∷◌, length, drop, codes, Contains, ◌⊎◌, find}
+use Rattle.std.specs.Prelude.{◌≡◌, ℕ, ◌&&◌, ◌||◌, ◌==◌, Bool, true, if◌then◌else◌, not, nat_lt, nat_le, nat_eq, IsTrue, List, [], ◌∷◌, length, drop, codes, Contains, ◌⊎◌, find}
 use Rattle.std.specs.List.{starts_with, ends_with, list_any}
 use Rattle.std.specs.Option.{option_map_or}
 use Rattle.std.specs.Str.{str_to_ascii_lowercase}
@@ -39,7 +39,7 @@ without_ignorable (a ∷ b ∷ c ∷ name) =
 abbrev pub seen : Bool → List ℕ → List ℕ
 seen hfs name = if hfs then without_ignorable name else name
 
--- any bytes of `fill` stand at the front, and then the end or a byte of `cut`
+-- any bytes of `fill` are at the front, and then comes the end or a byte of `cut`
 abbrev pub ends_at : (fill cut : List ℕ) → List ℕ → Bool
 ends_at fill cut bytes = option_map_or (is_one_of cut) (find (λ byte. not (is_one_of fill byte)) bytes) true
 
@@ -50,7 +50,7 @@ spells word fill cut bytes =
     starts_with nat_eq (str_to_ascii_lowercase bytes) word && ends_at fill cut (drop (length word) bytes)
 
 -- `.git` in any case. NTFS takes `git~1` for it too, drops spaces and periods at the end of a name, and reads a colon
--- as the begin of a stream's name; Windows parts paths at a backslash. (git-config(1), core.protectNTFS; Git,
+-- as the start of a stream's name; Windows splits paths at a backslash. (git-config(1), core.protectNTFS; Git,
 -- "path.c": `is_ntfs_dotgit`)
 abbrev pub is_dot_git : Bool → List ℕ → Bool
 is_dot_git ntfs name =
@@ -62,7 +62,7 @@ is_dot_git ntfs name =
 abbrev pub is_illegal : ℕ → Bool
 is_illegal byte = nat_lt byte 32 || is_one_of (codes "\\<>:\"|?*") byte
 
--- a space or a period stands at the end
+-- the last byte is a space or a period
 abbrev pub ends_loosely : List ℕ → Bool
 ends_loosely name = ends_with nat_eq name (codes " ") || ends_with nat_eq name (codes ".")
 

@@ -1,6 +1,5 @@
 -- What holds of names, for proofs above to cite. Each is also the contract of a function of the module `laws`; the
--- proofs
--- are in the files below.
+-- proofs are in the files below.
 pub mod Categories
 pub mod Formats
 pub mod Paths

@@ -21,11 +21,11 @@ is_forbidden byte = nat_lt byte 32 || byte == 127 || list_any (λ c. c == byte) 
 abbrev pub ForbiddenAt : List ℕ → ℕ → Type 0
 ForbiddenAt name at = IsSomeAnd (slice_get name at) (λ byte. IsTrue (is_forbidden byte))
 
--- the text stands in the name at the place
+-- the name contains the text at the place
 abbrev pub StandsAt : List ℕ → List ℕ → ℕ → Type 0
 StandsAt text name at = IsTrue (starts_with nat_eq (drop at name) text)
 
--- Slashes part a name into components: one begins at the front and after each slash.
+-- Slashes separate the components of a name: one begins at the front and after each slash.
 abbrev pub BeginsComponent : List ℕ → ℕ → Type 0
 BeginsComponent name at = (at ≡ 0) ⊎ StandsAt (codes "/") name (at - 1)
 

@@ -1,4 +1,4 @@
--- Namespaces, which part the references of one repository into sets.
+-- Namespaces, which divide the references of one repository into sets.
 use Rattle.std.specs.Prelude.{ℕ, List, ◌++◌, codes}
 use Rattle.std.specs.List.{flat_map}
 use Rattle.gx_rules.specs.Path.{components}

@@ -12,7 +12,7 @@ abbrev pub at_front : ℕ → Path → Path
 at_front b [] = (b ∷ []) ∷ []
 at_front b (name ∷ path) = (b ∷ name) ∷ path
 
--- A path is written with a slash between its names; so a text is parted at each slash.
+-- A path is written with a slash between its names, so a text is split at each slash.
 -- (git-fast-import(1), "filemodify")
 abbrev pub components : List ℕ → Path
 components [] = [] ∷ []
@@ -23,7 +23,7 @@ abbrev pub components_in : Option (Bor (List ℕ)) → Path
 components_in None = []
 components_in (Some text) = components text.now
 
--- The names hold no slash, and joined by slashes they give the path.
+-- No name contains a slash, and joined by slashes they are the path.
 pub record IsParted (path : List ℕ) (names : Path) : Type 0 where
   pub some : names ≢ []
   pub plain : All (λ name. ¬ Contains name 47) names

@@ -4,7 +4,7 @@
 use Rattle.std.specs.Prelude.{◌≡◌, ℕ, Bool, true, false, ◌||◌, ◌&&◌, ◌==◌, nat_le, List, [], ◌∷◌, ◌++◌, length, codes}
 use Rattle.std.specs.List.{list_any}
 
--- A byte of a pattern stands bare, or after a backslash that takes its meaning from it. (glob(7): "One can remove the
+-- A byte of a pattern is bare, or after a backslash that takes its meaning from it. (glob(7): "One can remove the
 -- special meaning of '?', '*', and '[' by preceding them by a backslash")
 pub data Letter : Type 0 where
   Bare : ℕ → Letter
@@ -30,9 +30,9 @@ letters (byte ∷ next ∷ text) =
       | false ↦ Bare byte ∷ letters (next ∷ text)
     ]
 
--- The letters of a set hold bytes. They are read from the left: a letter, a bare `-` and a further letter hold the
--- bytes from the one to the other, which are none where the first is the greater, and any other letter holds its own
--- byte. (glob(7): "two characters separated by '-' denote a range"; "One may include '-' in its literal meaning by
+-- The letters of a set contain bytes. They are read from the left: a letter, a bare `-` and another letter contain the
+-- bytes from the one to the other, which are none where the first is the greater, and any other letter contains its
+-- own byte. (glob(7): "two characters separated by '-' denote a range"; "One may include '-' in its literal meaning by
 -- making it the first or last character")
 unfoldable pub holds : List Letter → ℕ → Bool
 holds [] byte = false
@@ -44,7 +44,7 @@ holds (one ∷ dash ∷ other ∷ more) byte =
       | false ↦ byte_of one == byte || holds (dash ∷ other ∷ more) byte
     ]
 
--- What a pattern is made of: a letter that stands for its byte, `?`, `*`, and a set with its members, plain or negated.
+-- What a pattern consists of: a letter that matches its byte, `?`, `*`, and a set with its members, plain or negated.
 pub data Piece : Type 0 where
   Plain : Letter → Piece
   AnyByte : Piece
@@ -52,7 +52,7 @@ pub data Piece : Type 0 where
   OneOf : List Letter → Piece
   NoneOf : List Letter → Piece
 
--- a bare `*`, `?`, `[` or backslash does not stand for itself
+-- a bare `*`, `?`, `[` or backslash does not match itself
 abbrev pub is_special : Letter → Bool
 is_special letter = list_any (λ byte. is_bare byte letter) (codes "*?[\\")
 

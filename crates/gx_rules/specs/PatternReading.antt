@@ -119,7 +119,7 @@ abbrev pub StepGives : Walk → Step → Type 0
 StepGives old (step.Next new) = GoesOn old new
 StepGives old (step.Done answer) = IsTrue answer ↔ IsAlive old
 
--- the walk is in a pattern of at most so many bytes
+-- the walk is in a pattern of at most this many bytes
 abbrev pub IsWithin : ℕ → Walk → Type 0
 IsWithin limit walk = (length walk.pattern.now ≤ limit) × (length walk.behind_star.now ≤ limit)
 

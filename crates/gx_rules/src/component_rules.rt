@@ -43,6 +43,11 @@ impl Default for Protect {
 }
 
 /// Whether an entry of a tree may have that name. The error tells the first rule that the name breaks.
+///
+/// ```
+/// component(b"hello.txt", false, Protect::default())?;
+/// let is_refused = component(b".git", false, Protect::default()).is_err();
+/// ```
 pub fn component(name: &[u8], is_link: bool, protect: Protect) -> Result<(), ComponentError>
     ensures { MatchResult result
         (λ _. IsComponent name.now is_link protect) (IsFirstViolated name.now is_link protect) }

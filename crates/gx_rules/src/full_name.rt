@@ -15,6 +15,12 @@ use std::fmt;
 use std::marker::Model;
 
 /// The full name of a reference, as `refs/heads/main` or `HEAD`. Names are ordered by their bytes.
+///
+/// ```
+/// let main = FullName::new(alloc, b"refs/heads/main")?;
+/// let is_branch = main.category() == Some(Category::LocalBranch);
+/// let error = FullName::new(alloc, b"refs/heads/.main").err();
+/// ```
 #[derive(Debug, Drop)]
 pub struct FullName {
     bytes: Bytes,
@@ -25,7 +31,11 @@ impl Model for FullName {
 
     ghost Value = { List ℕ };
 
+    ghost use Rattle.gx_rules.specs.Name.{IsFullName};
+
     ghost view = { λ name. name.bytes };
+
+    ghost invariant = { λ name. IsFullName name.bytes };
 }
 
 impl FullName {
@@ -42,17 +52,24 @@ impl FullName {
         })
     }
 
-    /// A name that was tested before, as by the store that hands it back.
-    pub fn new_unchecked(bytes: Bytes) -> FullName
-        ensures { result ≡ bytes }
-    {
-        FullName { bytes }
-    }
-
     pub fn as_slice(&self) -> &[u8]
         ensures { result.now ≡ self.now }
     {
         self.bytes.as_slice()
+    }
+
+    /// The name as bytes of which a copy can be owned.
+    pub fn bytes(&self) -> &Bytes
+        ensures { result.now ≡ self.now }
+    {
+        &self.bytes
+    }
+
+    /// It does nothing. Its contract tells what holds of each full name.
+    pub(crate) fn keeps_rules(&self)
+        ensures { IsFullName self.now }
+    {
+        let _ = &self.bytes;
     }
 
     /// The bytes as text by convention, to be printed: bytes that are no UTF-8 show as U+FFFD.
@@ -66,7 +83,7 @@ impl FullName {
     pub fn to_partial(&self) -> Result<PartialName, NoMemory>
         ensures { IfOk result (λ partial. partial ≡ self.now) }
     {
-        Ok(PartialName::new_unchecked(self.bytes.try_clone()?))
+        Ok(PartialName::from_full(self.bytes.try_clone()?))
     }
 
     /// The name as people know it: without the directory that its category keeps it in.

@@ -12,7 +12,7 @@ ghost use Rattle.gx_rules.specs.Pattern.{Piece, Spells, letters};
 ghost use Rattle.gx_rules.specs.RefFormat.{IsWellFormed};
 
 use crate::name_rules::check_full_name;
-use crate::{Protect, component};
+use crate::{FullName, PartialName, Protect, component};
 
 /// Each name is full, or breaks some rule first, and not both.
 pub fn every_name_is_judged(name: &[u8])
@@ -26,6 +26,15 @@ pub fn every_name_is_judged(name: &[u8])
 pub fn one_error_is_first(name: &[u8])
     ensures { (a b : NameError) → IsFirstBroken name.now a → IsFirstBroken name.now b → a ≡ b }
 {}
+
+/// Each `FullName` keeps all rules of names, and each `PartialName` those that partial names keep.
+pub fn names_keep_their_rules(full: &FullName, partial: &PartialName)
+    ensures full { IsFullName full.now }
+    ensures partial { IsPartialName partial.now }
+{
+    full.keeps_rules();
+    partial.keeps_rules();
+}
 
 /// The components of a path are names without a slash that give the path when slashes join them, and no other
 /// names do.

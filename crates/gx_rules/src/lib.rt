@@ -1,4 +1,4 @@
-//! The rules of names: what a reference may be called, what an entry of a tree may be called, and how paths are parted.
+//! The rules of names: what a reference may be called, what an entry of a tree may be called, and how paths are split.
 #![tactic(auto)]
 
 mod category;

@@ -33,7 +33,7 @@ pub enum NameError {
     EndsWithDot,
     #[error("a reference name must not be '@'")]
     SingleAt,
-    /// A name without a slash stands for itself only as `HEAD` and `FETCH_HEAD` do.
+    /// A name without a slash has only capital letters and underscores, as `HEAD` and `FETCH_HEAD`.
     #[error("a reference name without a slash has capital letters and underscores only")]
     SomeLowercase,
     #[error("out of memory")]

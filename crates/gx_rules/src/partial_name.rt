@@ -1,7 +1,7 @@
 //! Partial names of references.
 ghost use Rattle.std.specs.Prelude.{◌≡◌, ◌≢◌, ◌⊎◌, IfOk, MatchResult};
 ghost use Rattle.bstr.specs.BStr.{bstr_bytes};
-ghost use Rattle.gx_rules.specs.Name.{IsPartialName, IsFirstBroken};
+ghost use Rattle.gx_rules.specs.Name.{IsFullName, IsPartialName, IsFirstBroken};
 
 use crate::NameError;
 use crate::name_rules::check_partial_name;
@@ -24,7 +24,11 @@ impl Model for PartialName {
 
     ghost Value = { List ℕ };
 
+    ghost use Rattle.gx_rules.specs.Name.{IsPartialName};
+
     ghost view = { λ name. name.bytes };
+
+    ghost invariant = { λ name. IsPartialName name.bytes };
 }
 
 impl PartialName {
@@ -42,8 +46,10 @@ impl PartialName {
         })
     }
 
-    /// A name that was tested before, as a full one.
-    pub(crate) fn new_unchecked(bytes: Bytes) -> PartialName
+    /// The bytes of a full name.
+    #[tactic(auto, using(crate::proofs::NameLaws::full_is_partial))]
+    pub(crate) fn from_full(bytes: Bytes) -> PartialName
+        requires { IsFullName bytes }
         ensures { result ≡ bytes }
     {
         PartialName { bytes }
@@ -53,6 +59,13 @@ impl PartialName {
         ensures { result.now ≡ self.now }
     {
         self.bytes.as_slice()
+    }
+
+    /// It does nothing. Its contract tells what holds of each partial name.
+    pub(crate) fn keeps_rules(&self)
+        ensures { IsPartialName self.now }
+    {
+        let _ = &self.bytes;
     }
 
     /// The bytes as text by convention, to be printed: bytes that are no UTF-8 show as U+FFFD.

@@ -40,6 +40,11 @@ impl From<NoMemory> for PatternError {
 /// A pattern over names, as `refs/heads/*`: `?` is any byte, `*` any bytes, slashes too, `[a-z]` one byte of a
 /// set, `[!a-z]` one byte that is not in it, and a backslash takes the next byte as it is. Any bytes but none are
 /// a pattern; one with a set that is not closed, or with a last backslash, matches no name.
+///
+/// ```
+/// let pattern = Pattern::new(alloc, b"refs/heads/*")?;
+/// let is_match = pattern.matches(b"refs/heads/main");
+/// ```
 #[derive(Debug, Drop)]
 pub struct Pattern {
     bytes: Bytes,

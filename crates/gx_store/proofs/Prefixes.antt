@@ -83,7 +83,7 @@ squeezed p x y Less Equal e f g t u h k = let a = ranked p x Less (sym e) in let
 squeezed p x y Equal Less e f g t u h k = let a = ranked p x Equal (sym e) in let b = ranked x y Less (sym f) in absurd (omega arith)
 squeezed p x y Equal Equal e f g t u h k = (ranked p x Equal (sym e), h, k)
 
--- behind a name that does not begin with the prefix, and is not below it, none does
+-- after a name that does not begin with the prefix, and is not below it, none does
 begins_no_more : (prefix a b : List ℕ) → begins prefix a ≡ false → is_le (name_cmp prefix a) ≡ true → name_cmp a b ≡ Less → begins prefix b ≡ false
 unfolding begins
 begins_no_more [] a b e h k = cc
@@ -172,7 +172,7 @@ never false = refl
 wanted_less : (prefix : List ℕ) (e : List ℕ × Slot) (es : List (List ℕ × Slot)) → starts_with nat_eq e.0 prefix ≡ false → wanted prefix (e ∷ es) ≡ wanted prefix es
 wanted_less prefix e es h = wanted_more prefix e es ∙ ap (λ b. cond (is_some (target_in e.1) && b) (e.0 ∷ wanted prefix es) (wanted prefix es)) h ∙ ap (λ b. cond b (e.0 ∷ wanted prefix es) (wanted prefix es)) (never (is_some (target_in e.1)))
 
--- a name behind one that does not begin with the prefix
+-- a name after one that does not begin with the prefix
 starts_no_more : (prefix a b : List ℕ) → starts_with nat_eq a prefix ≡ false → is_le (name_cmp prefix a) ≡ true → name_cmp a b ≡ Less → starts_with nat_eq b prefix ≡ false
 starts_no_more prefix a b e h k = starts_is prefix b ∙ begins_no_more prefix a b (sym (starts_is prefix a) ∙ e) h k
 

@@ -35,7 +35,7 @@ counted calls = record calls { made = next_call calls }
 abbrev pub with_due : ℕ → Calls → Calls
 with_due nth calls = record calls { fails = λ n. calls.fails n || nat_eq nth n }
 
--- whether a call failed otherwise than for want of memory
+-- whether a call failed otherwise than for lack of memory
 abbrev pub is_fault : {T : Type 0} → Result T StoreError → Bool
 is_fault (Ok x) = false
 is_fault (Err NoMemory) = false

@@ -54,7 +54,8 @@ abbrev pub AreOfOwnIds : HashKind → List (Kind × List ℕ) → Type 0
 AreOfOwnIds hash [] = Unit {0}
 AreOfOwnIds hash (object ∷ objects) = AllByRecursion (λ other. id_of hash other ≡ id_of hash object → other ≡ object) objects × AreOfOwnIds hash objects
 
--- Git rests on no two objects sharing a digest, and on none having the null id. This says it of some objects and a content.
+-- Git relies on no two objects sharing a digest, and on none having the null id. This says it of some objects and a
+-- content.
 -- (hash-function-transition, "Background")
 pub record AreApart (hash : HashKind) (content : Content) (objects : List (Kind × List ℕ)) : Type 0 where
   pub named : AllByRecursion (λ object. id_of hash object ≢ null_id hash) objects

@@ -1,4 +1,4 @@
--- The content that a tree map of objects stands for.
+-- The content that a tree map of objects has.
 use Rattle.std.specs.Prelude.{ℕ, List}
 use Rattle.std.specs.FinMap.{from_entries}
 use Rattle.std.specs.BTreeMap.{BTreeMap}

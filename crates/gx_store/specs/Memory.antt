@@ -1,4 +1,4 @@
--- What a store in memory means.
+-- The state of a store in memory.
 use Rattle.std.specs.Prelude.{Bool, false, Some, nat_eq}
 use Rattle.std.specs.List.{list_any}
 use Rattle.std.specs.Cmp.Lexicographic.{pointwise}

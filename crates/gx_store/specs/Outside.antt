@@ -13,7 +13,7 @@ abbrev pub IsEnd : Option (List ℕ) → Type 0
 IsEnd None = Unit {0}
 IsEnd (Some left) = left ≡ []
 
--- The bytes were written behind what was written before. A sink tells what was written before and after, or at no time.
+-- The bytes were written after what was written before. A sink tells what was written before and after, or at no time.
 abbrev pub Writes : Option (List ℕ) → Option (List ℕ) → List ℕ → Type 0
 Writes None None bytes = Unit {0}
 Writes None (Some new) bytes = ⊥

@@ -41,11 +41,11 @@ room_of log_act.Keep = 0
 room_of (log_act.Append line) = 1
 room_of log_act.Remove = 0
 
--- so many lines more have room in the slot
+-- this many lines more have room in the slot
 abbrev pub FitsIn : ℕ → Slot → Type 0
 FitsIn room slot = vec_len slot.lines + room ≤ vec_capacity slot.lines
 
--- there is a slot at the name, in which so many lines more have room
+-- there is a slot at the name, in which this many lines more have room
 abbrev pub HasRoom : BTreeMap (List ℕ) Slot → List ℕ → ℕ → Type 0
 HasRoom map name room = IsSomeAnd (get name_cmp map name) (FitsIn room)
 

@@ -1,4 +1,4 @@
--- What a store means, whichever way it is kept.
+-- The state of a store, whichever way it is kept.
 use Rattle.std.specs.Prelude.{◌≡◌, ◌≤◌, ℕ, Bool, List, Option, option_map, IsTrue, Result, IfErr}
 use Rattle.std.specs.FinMap.{FinMap}
 use Rattle.gx_hash.specs.declared.kind.HashKind.{HashKind}
@@ -14,14 +14,14 @@ use Rattle.gx_store.specs.declared.error.What.TheVariants as what
 use Rattle.gx_store.specs.declared.error.StoreError.{StoreError}
 use Rattle.gx_store.specs.declared.error.StoreError.TheVariants as store_error
 
--- References are a map from names to targets; each may have a log, and a log may stand without its reference.
+-- References are a map from names to targets; each may have a log, and a log may be there without its reference.
 -- (gitglossary, "ref" and "reflog"; gitrepository-layout, "logs")
 pub record RefState : Type 0 where
   pub targets : FinMap name_cmp Target
   -- the oldest line first
   pub logs : FinMap name_cmp (List LogLine)
 
--- All that a store means. (gitrepository-layout: objects, refs, logs)
+-- The whole state of a store. (gitrepository-layout: objects, refs, logs)
 pub record StoreState : Type 0 where
   -- the kind of every id
   pub hash : HashKind

@@ -1,4 +1,4 @@
-// References that a name can't stand beside. None but those above and below the name are looked at.
+// References that conflict with a name. None but those above and below the name are looked at.
 ghost use Rattle.std.specs.Prelude.{◌≡◌, ◌<◌, ℕ, List, length, slice_get, filter, nat_eq, None, IsSome, IfOk, IfSome, IfNone};
 ghost use Rattle.std.specs.List.{starts_with};
 ghost use Rattle.std.specs.FinMap.{get, keys};
@@ -14,28 +14,28 @@ use std::collections::BTreeMap;
 /// The first name with a target that begins with the prefix.
 fn first_with_prefix(
     alloc: Global,
-    map: &BTreeMap<FullName, Slot>,
+    map: &BTreeMap<Bytes, Slot>,
     prefix: &[u8],
 ) -> Result<Option<FullName>, NoMemory>
     ensures { IfOk result (λ found. found ≡ slice_get (filter (λ name. starts_with nat_eq name prefix.now) (keys (refs_of map.now).targets)) 0) }
 {
-    let from = FullName::new_unchecked(Bytes::from_slice(alloc, prefix)?);
+    let from = Bytes::from_slice(alloc, prefix)?;
     for (name, slot) in map.range(from..) {
         if !name.as_slice().starts_with(prefix) {
             return Ok(None);
         }
         if slot.has_target() {
-            return Ok(Some(name.try_clone()?));
+            return Ok(Some(slots::name_of(alloc, name.as_slice())?));
         }
     }
     Ok(None)
 }
 
-/// The part of the name before a place, where a slash stands there and a reference has that name.
+/// The part of the name before a place, where a slash is there and a reference has that name.
 #[tactic(auto, using(crate::proofs::ConflictLemmas::one_above))]
 fn reference_above(
     alloc: Global,
-    map: &BTreeMap<FullName, Slot>,
+    map: &BTreeMap<Bytes, Slot>,
     name: &[u8],
     at: usize,
 ) -> Result<Option<FullName>, NoMemory>
@@ -46,9 +46,9 @@ fn reference_above(
     if name[at] != b'/' {
         return Ok(None);
     }
-    let above = FullName::new_unchecked(Bytes::from_slice(alloc, &name[..at])?);
+    let above = Bytes::from_slice(alloc, &name[..at])?;
     if slots::has_target(map, &above) {
-        Ok(Some(above))
+        Ok(Some(slots::name_of(alloc, above.as_slice())?))
     } else {
         Ok(None)
     }
@@ -58,7 +58,7 @@ fn reference_above(
 #[tactic(auto, using(crate::proofs::ConflictLemmas::above_more, crate::proofs::ConflictLemmas::above_all))]
 fn conflict_above(
     alloc: Global,
-    map: &BTreeMap<FullName, Slot>,
+    map: &BTreeMap<Bytes, Slot>,
     name: &[u8],
 ) -> Result<Option<FullName>, NoMemory>
     ensures some { IfOk result (λ found. IfSome found (λ other. IsProperPrefix other name.now × IsSome (get (refs_of map.now).targets other))) }
@@ -76,7 +76,7 @@ fn conflict_above(
 #[tactic(auto, using(crate::proofs::ConflictLemmas::below_some, crate::proofs::ConflictLemmas::below_none))]
 fn conflict_below(
     alloc: Global,
-    map: &BTreeMap<FullName, Slot>,
+    map: &BTreeMap<Bytes, Slot>,
     name: &[u8],
 ) -> Result<Option<FullName>, NoMemory>
     ensures some { IfOk result (λ found. IfSome found (λ other. IsProperPrefix name.now other × IsSome (get (refs_of map.now).targets other))) }
@@ -89,10 +89,10 @@ fn conflict_below(
     Ok(found)
 }
 
-/// A reference beside which the name can't stand.
+/// A reference that conflicts with the name.
 pub(crate) fn conflict_of(
     alloc: Global,
-    map: &BTreeMap<FullName, Slot>,
+    map: &BTreeMap<Bytes, Slot>,
     name: &FullName,
 ) -> Result<Option<FullName>, NoMemory>
     ensures conflict { IfOk result (λ found. IfSome found (Conflict name.now)) }

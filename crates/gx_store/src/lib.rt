@@ -1,8 +1,9 @@
-//! What a repository is joined to: the traits of its stores, and of what a script is read from and replies are written to.
+//! The traits between the engine and the outside: stores of objects and references, and the ends that a script is read
+//! from and replies are written to.
 //!
-//! A store means one state: objects by id, references and logs by name, where it tells them, what of it can't
-//! be read, and a count of failed writes. Each call says what it answers of that state and what it makes of it,
-//! so that callers are proved for every store. `Memory` is the store of tests and of runs without a folder.
+//! The contracts speak of the state of a store: its objects by id, its references and logs by name, which of them can't
+//! be read, and how many writes have failed. They say what each call answers and how it changes that state, so callers
+//! are proved for every store. `Memory` is a store for tests and for runs without a folder.
 #![tactic(auto)]
 
 mod calls;

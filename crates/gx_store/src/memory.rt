@@ -25,7 +25,7 @@ use std::collections::BTreeMap;
 pub struct Memory {
     hash: HashKind,
     objects: BTreeMap<ObjectId, (Kind, Bytes)>,
-    slots: BTreeMap<FullName, Slot>,
+    slots: BTreeMap<Bytes, Slot>,
     ghost kinds: { AreRefsOfKind hash (refs_of slots) } by { AreRefsOfKind-prop hash (refs_of slots) },
     broken_objects: Vec<ObjectId>,
     broken_names: Vec<FullName>,
@@ -319,7 +319,7 @@ impl References for Memory {
         ensures broken { IsTrue ((memory_state self.now).unreadable (part.Name name.now)) → IsErr result }
     {
         self.check_name(name)?;
-        Ok(slots::target_at(&self.slots, name)?)
+        Ok(slots::target_at(&self.slots, name.bytes())?)
     }
 
     fn log(&self, alloc: Global, name: &FullName) -> Result<Option<Lines>, StoreError>
@@ -330,7 +330,7 @@ impl References for Memory {
         ensures broken { IsTrue ((memory_state self.now).unreadable (part.Name name.now)) → IsErr result }
     {
         self.check_name(name)?;
-        Ok(slots::log_at(alloc, &self.slots, name)?)
+        Ok(slots::log_at(alloc, &self.slots, name.bytes())?)
     }
 
     fn log_exists(&self, _alloc: Global, name: &FullName) -> Result<bool, StoreError>
@@ -340,7 +340,7 @@ impl References for Memory {
         ensures broken { IsTrue ((memory_state self.now).unreadable (part.Name name.now)) → IsErr result }
     {
         self.check_name(name)?;
-        Ok(slots::has_log(&self.slots, name))
+        Ok(slots::has_log(&self.slots, name.bytes()))
     }
 
     fn find_conflict(&self, alloc: Global, name: &FullName) -> Result<Option<FullName>, StoreError>

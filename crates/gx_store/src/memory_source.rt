@@ -37,7 +37,7 @@ impl MemorySource {
         MemorySource::chunked(bytes, failing, usize::MAX)
     }
 
-    /// A source that gives at most so many bytes at once.
+    /// A source that gives at most this many bytes at once.
     pub fn chunked(bytes: Bytes, failing: Calls, most: usize) -> MemorySource
         requires { 0 < most }
         ensures { result ≡ record { left = bytes; most = most; failing = failing; calls = 0; faults = 0 } }

@@ -139,11 +139,7 @@ impl Slot {
 }
 
 /// Makes a slot, if there is none.
-fn make_slot(
-    alloc: Global,
-    map: &mut BTreeMap<FullName, Slot>,
-    name: &FullName,
-) -> Result<(), NoMemory>
+fn make_slot(alloc: Global, map: &mut BTreeMap<Bytes, Slot>, name: &Bytes) -> Result<(), NoMemory>
     ensures same { refs_of map.new ≡ refs_of map.old }
     ensures room { KeepsRoom map.old map.new }
     ensures ok { OnOk result (IsSome (get name_cmp map.new name.now)) }
@@ -156,11 +152,7 @@ fn make_slot(
 }
 
 /// Makes room in a slot for what an act adds.
-fn make_room(
-    map: &mut BTreeMap<FullName, Slot>,
-    name: &FullName,
-    act: &LogAct,
-) -> Result<(), NoMemory>
+fn make_room(map: &mut BTreeMap<Bytes, Slot>, name: &Bytes, act: &LogAct) -> Result<(), NoMemory>
     requires { IsSome (get name_cmp map.old name.now) }
     ensures same { refs_of map.new ≡ refs_of map.old }
     ensures room { KeepsRoom map.old map.new }
@@ -172,28 +164,29 @@ fn make_room(
     }
 }
 
-/// Makes a change that is ready, in its slot. Gives the name if that leaves the slot empty.
-fn change_slot(map: &mut BTreeMap<FullName, Slot>, change: RefChange) -> Option<FullName>
-    requires { HasRoom map.old change.name (room_of change.log) }
-    ensures changed { refs_of map.new ≡ with_change change (refs_of map.old) }
-    ensures room { KeepsOthersRoom change.name map.old map.new }
-    ensures name { IfSome result (λ name. name ≡ change.name) }
+/// Makes a change that is ready, in its slot, and tells whether that leaves the slot empty.
+fn change_slot(
+    map: &mut BTreeMap<Bytes, Slot>,
+    name: &Bytes,
+    target: TargetChange,
+    log: LogAct,
+) -> bool
+    requires { HasRoom map.old name.now (room_of log) }
+    ensures changed { refs_of map.new
+        ≡ with_change (record { name = name.now; target = target; log = log }) (refs_of map.old) }
+    ensures room { KeepsOthersRoom name.now map.old map.new }
 {
-    match map.get_mut(&change.name) {
-        None => None,
+    match map.get_mut(name) {
+        None => false,
         Some(slot) => {
-            slot.change(change.target, change.log);
-            if slot.is_empty() {
-                Some(change.name)
-            } else {
-                None
-            }
+            slot.change(target, log);
+            slot.is_empty()
         }
     }
 }
 
 /// Takes out a slot, if it is empty.
-fn drop_slot(map: &mut BTreeMap<FullName, Slot>, name: &FullName)
+fn drop_slot(map: &mut BTreeMap<Bytes, Slot>, name: &Bytes)
     ensures same { refs_of map.new ≡ refs_of map.old }
     ensures room { KeepsOthersRoom name.now map.old map.new }
 {
@@ -205,20 +198,36 @@ fn drop_slot(map: &mut BTreeMap<FullName, Slot>, name: &FullName)
 }
 
 /// Makes a change that is ready.
-fn make_change(map: &mut BTreeMap<FullName, Slot>, change: RefChange)
+fn make_change(map: &mut BTreeMap<Bytes, Slot>, change: RefChange)
     requires { HasRoom map.old change.name (room_of change.log) }
     ensures changed { refs_of map.new ≡ with_change change (refs_of map.old) }
     ensures room { KeepsOthersRoom change.name map.old map.new }
 {
-    if let Some(name) = change_slot(map, change) {
-        drop_slot(map, &name);
+    let RefChange { name, target, log } = change;
+    if change_slot(map, name.bytes(), target, log) {
+        drop_slot(map, name.bytes());
     }
+}
+
+/// Makes the slot and the room that a change needs.
+fn make_ready(
+    alloc: Global,
+    map: &mut BTreeMap<Bytes, Slot>,
+    change: &RefChange,
+) -> Result<(), NoMemory>
+    ensures same { refs_of map.new ≡ refs_of map.old }
+    ensures room { KeepsRoom map.old map.new }
+    ensures ok { OnOk result (HasRoom map.new change.now.name (room_of change.now.log)) }
+{
+    let name = change.name.bytes();
+    make_slot(alloc, map, name)?;
+    make_room(map, name, &change.log)
 }
 
 /// Makes ready all changes, and gives their copies.
 fn prepare(
     alloc: Global,
-    map: &mut BTreeMap<FullName, Slot>,
+    map: &mut BTreeMap<Bytes, Slot>,
     changes: &[RefChange],
 ) -> Result<Vec<RefChange>, NoMemory>
     ensures same { refs_of map.new ≡ refs_of map.old }
@@ -227,15 +236,14 @@ fn prepare(
 {
     let mut copies = Vec::with_capacity(alloc, changes.len())?;
     for change in changes {
-        make_slot(alloc, map, &change.name)?;
-        make_room(map, &change.name, &change.log)?;
+        make_ready(alloc, map, change)?;
         copies.push(change.try_clone()?)?;
     }
     Ok(copies)
 }
 
 /// Makes all changes that are ready.
-fn make_changes(map: &mut BTreeMap<FullName, Slot>, changes: Vec<RefChange>)
+fn make_changes(map: &mut BTreeMap<Bytes, Slot>, changes: Vec<RefChange>)
     requires names { HaveDistinctNames changes.items }
     requires ready { AreReady map.old changes.items }
     ensures { refs_of map.new ≡ refs_after changes.items (refs_of map.old) }
@@ -249,7 +257,7 @@ fn make_changes(map: &mut BTreeMap<FullName, Slot>, changes: Vec<RefChange>)
 #[tactic(auto, using(crate::proofs::KindLemmas::change_of_kind, crate::proofs::KindLemmas::same_of_kind))]
 pub(crate) fn change(
     alloc: Global,
-    map: &mut BTreeMap<FullName, Slot>,
+    map: &mut BTreeMap<Bytes, Slot>,
     changes: &[RefChange],
 ) -> Result<(), NoMemory>
     requires { HaveDistinctNames changes.now }
@@ -262,22 +270,32 @@ pub(crate) fn change(
     Ok(())
 }
 
+/// The name of a slot, or one that is written in this file. It is known to be valid, so only memory can run out.
+pub(crate) fn name_of(alloc: Global, text: &[u8]) -> Result<FullName, NoMemory>
+    ensures { IfOk result (λ name. name ≡ text.now) }
+{
+    match FullName::new(alloc, text) {
+        Ok(name) => Ok(name),
+        Err(_) => Err(NoMemory),
+    }
+}
+
 /// The names with a target that begin with the prefix.
 pub(crate) fn names_of(
     alloc: Global,
-    map: &BTreeMap<FullName, Slot>,
+    map: &BTreeMap<Bytes, Slot>,
     prefix: &[u8],
 ) -> Result<Names, NoMemory>
     ensures { IfOk result (λ names. names ≡ filter (λ name. starts_with nat_eq name prefix.now) (finite.keys (refs_of map.now).targets)) }
 {
-    let from = FullName::new_unchecked(Bytes::from_slice(alloc, prefix)?);
+    let from = Bytes::from_slice(alloc, prefix)?;
     let mut names = Vec::new(alloc);
     for (name, slot) in map.range(from..) {
         if !name.as_slice().starts_with(prefix) {
             return Ok(Names::from_vec(names));
         }
         if slot.target.is_some() {
-            names.push(name.try_clone()?)?;
+            names.push(name_of(alloc, name.as_slice())?)?;
         }
     }
     Ok(Names::from_vec(names))
@@ -286,8 +304,8 @@ pub(crate) fn names_of(
 /// The target at a name.
 #[tactic(auto, using(crate::proofs::SlotLemmas::get_names))]
 pub(crate) fn target_at(
-    map: &BTreeMap<FullName, Slot>,
-    name: &FullName,
+    map: &BTreeMap<Bytes, Slot>,
+    name: &Bytes,
 ) -> Result<Option<Target>, NoMemory>
     ensures { IfOk result (λ found. found ≡ finite.get (refs_of map.now).targets name.now) }
 {
@@ -299,7 +317,7 @@ pub(crate) fn target_at(
 
 /// Whether there is a target at a name.
 #[tactic(auto, using(crate::proofs::SlotLemmas::get_names))]
-pub(crate) fn has_target(map: &BTreeMap<FullName, Slot>, name: &FullName) -> bool
+pub(crate) fn has_target(map: &BTreeMap<Bytes, Slot>, name: &Bytes) -> bool
     ensures { result ≡ finite.contains_key (refs_of map.now).targets name.now }
 {
     match map.get(name) {
@@ -310,7 +328,7 @@ pub(crate) fn has_target(map: &BTreeMap<FullName, Slot>, name: &FullName) -> boo
 
 /// Whether there is a log at a name.
 #[tactic(auto, using(crate::proofs::SlotLemmas::get_names))]
-pub(crate) fn has_log(map: &BTreeMap<FullName, Slot>, name: &FullName) -> bool
+pub(crate) fn has_log(map: &BTreeMap<Bytes, Slot>, name: &Bytes) -> bool
     ensures { result ≡ finite.contains_key (refs_of map.now).logs name.now }
 {
     match map.get(name) {
@@ -323,8 +341,8 @@ pub(crate) fn has_log(map: &BTreeMap<FullName, Slot>, name: &FullName) -> bool
 #[tactic(auto, using(crate::proofs::SlotLemmas::get_names))]
 pub(crate) fn log_at(
     alloc: Global,
-    map: &BTreeMap<FullName, Slot>,
-    name: &FullName,
+    map: &BTreeMap<Bytes, Slot>,
+    name: &Bytes,
 ) -> Result<Option<Lines>, NoMemory>
     ensures { IfOk result (λ found. found ≡ finite.get (refs_of map.now).logs name.now) }
 {
@@ -335,13 +353,13 @@ pub(crate) fn log_at(
 }
 
 /// The slots of a new store: `HEAD` is symbolic to `refs/heads/main`.
-pub(crate) fn start(alloc: Global) -> Result<BTreeMap<FullName, Slot>, NoMemory>
+pub(crate) fn start(alloc: Global) -> Result<BTreeMap<Bytes, Slot>, NoMemory>
     ensures { IfOk result (λ map. refs_of map ≡ fresh_refs) }
 {
-    let head = FullName::new_unchecked(Bytes::from_slice(alloc, b"HEAD")?);
-    let main = FullName::new_unchecked(Bytes::from_slice(alloc, b"refs/heads/main")?);
+    let head = name_of(alloc, b"HEAD")?;
+    let main = name_of(alloc, b"refs/heads/main")?;
     let mut map = BTreeMap::new(alloc);
-    make_slot(alloc, &mut map, &head)?;
+    make_slot(alloc, &mut map, head.bytes())?;
     make_change(
         &mut map,
         RefChange {

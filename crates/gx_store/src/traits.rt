@@ -17,8 +17,8 @@ use gx_object::Kind;
 use gx_rules::FullName;
 use std::alloc::Global;
 
-/// What a store means: its objects, its references and logs, and how it fails. Both traits speak of one state,
-/// so what a call of one leaves of the other's part is said too.
+/// The state of a store: its objects, its references and logs, and how it fails. Both traits speak of one state, so a
+/// contract also says that the part of the other trait is unchanged.
 pub trait Meanings {
     ghost state: { Self → StoreState };
 }
@@ -91,7 +91,7 @@ pub trait References: Meanings {
             found ≡ contains_key refs.logs name.now)) }
         ensures fault { IfFault result (IsUnreadable (Self.state self.now) (part.Name name.now)) };
 
-    /// A reference beside which the name can't stand, since it would be a directory of the other, or the other of it.
+    /// A reference that conflicts with the name: one of the two would be a directory that contains the other.
     fn find_conflict(&self, alloc: Global, name: &FullName) -> Result<Option<FullName>, StoreError>
         ensures conflict { IfOk result (λ found. IfSome found (Conflict name.now)) }
         ensures stored { IfOk result (λ found. IfSome found (λ other. IfSome (Self.state self.now).references (λ refs.

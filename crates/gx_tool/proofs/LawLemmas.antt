@@ -9,7 +9,6 @@ use Rattle.gx_script.specs.declared.request.Request.{Request}
 use Rattle.gx_script.specs.Laws.{HasNoRequest}
 use Rattle.gx_script.specs.Spelling.{spelling}
 use Rattle.gx_script.specs.Script.{IsScript, IsBad, StopsAt}
-use Rattle.gx_script.proofs.OneReading.{bad_not_whole, nothing_whole, one_script}
 use Rattle.gx_tool.specs.declared.reply.Reply.{Reply}
 use Rattle.gx_tool.specs.declared.status.Status.{Status}
 use Rattle.gx_tool.specs.declared.status.Status.TheVariants.{Done, Refusals, Malformed, ReadFault, WriteFault, NoMemory, BadWords, StoreFault, TooLong}
@@ -17,6 +16,7 @@ use Rattle.gix.specs.Machine.{state_of}
 use Rattle.gix.specs.View.{State}
 use Rattle.gx_tool.specs.Completeness.{IsFaultless, AreValid}
 use Rattle.gx_tool.specs.Course.{Moment, Answers, Ends, code, taken_count}
+use Rattle.gx_tool.specs.ReadsOnce.{ReadsOnce}
 use Rattle.gx_tool.specs.Reply.{all_accepted}
 use Rattle.gx_tool.proofs.FaultlessLemmas.{quiet}
 use Rattle.gx_tool.proofs.ValidLemmas.{ValidIsMade, valid_accepted}
@@ -106,12 +106,12 @@ whole_script limit start now number bytes a o h =
     (all.0, (a.requests, record { each = a.course.each; whole = all.1 }))
 
 -- bytes that go wrong go wrong with all that is behind them
-bad_on : (hash : HashKind) (rest left : List ℕ) (newlines : ℕ) → IsBad hash rest (IsEnd (Some left)) newlines → HasNoRequest hash (rest ++ left)
-bad_on hash rest left newlines h = go h.more h.split h.stops
+bad_on : (reads : ReadsOnce) (hash : HashKind) (rest left : List ℕ) (newlines : ℕ) → IsBad hash rest (IsEnd (Some left)) newlines → HasNoRequest hash (rest ++ left)
+bad_on reads hash rest left newlines h = go h.more h.split h.stops
   where
     go : (more : List ℕ) → rest ≡ h.front ++ more → StopsAt hash (IsEnd (Some left)) h.front more → HasNoRequest hash (rest ++ left)
-    go [] split stops = subst (HasNoRequest hash) (sym (ap (λ (l : List ℕ). rest ++ l) stops.0 ∙ append-nil rest)) (bad_not_whole hash rest (IsEnd (Some left)) newlines h)
-    go (b ∷ more) split stops = bad_not_whole hash (rest ++ left) ⊥ newlines (record {
+    go [] split stops = subst (HasNoRequest hash) (sym (ap (λ (l : List ℕ). rest ++ l) stops.0 ∙ append-nil rest)) (reads.bad hash rest (Some left) newlines h)
+    go (b ∷ more) split stops = reads.bad hash (rest ++ left) (Some left) newlines (record {
       front = h.front;
       more = b ∷ (more ++ left);
       split = ap (λ (l : List ℕ). l ++ left) split ∙ append_assoc h.front (b ∷ more) left;
@@ -147,23 +147,23 @@ malformed limit start now requests replies rest out store BadWords e h = absurd 
 malformed limit start now requests replies rest out store StoreFault e h = cc
 malformed limit start now requests replies rest out store TooLong e h = cc
 
-pub not_malformed : (limit : ℕ) (start now : Moment) (number : ℕ) (bytes : List ℕ) (requests : List Request) → Answers limit start now number → start.left ≡ Some bytes → IsScript start.store.hash bytes requests → number ≡ 2 → ⊥
-not_malformed limit start now number bytes requests a o script h =
+pub not_malformed : (reads : ReadsOnce) (limit : ℕ) (start now : Moment) (number : ℕ) (bytes : List ℕ) (requests : List Request) → Answers limit start now number → start.left ≡ Some bytes → IsScript start.store.hash bytes requests → number ≡ 2 → ⊥
+not_malformed reads limit start now number bytes requests a o script h =
     let bad = malformed limit start now a.requests a.replies a.rest a.out a.store a.status a.ends (sym a.is ∙ h) in
     let left = told_left start.left now.left bytes (flat_map spelling a.requests ++ a.rest) o a.course.takes in
     let wrong : IsBad start.store.hash a.rest (IsEnd (Some left.0)) bad.0 = subst (λ (l : Option (List ℕ)). IsBad start.store.hash a.rest (IsEnd l) bad.0) left.1 bad.1 in
     let same : bytes ≡ (flat_map spelling a.requests ++ a.rest) ++ left.0 = taken_of start.left now.left bytes left.0 (flat_map spelling a.requests ++ a.rest) o left.1 a.course.takes in
     let both : flat_map spelling a.requests ++ (a.rest ++ left.0) ≡ flat_map spelling requests ++ [] = sym (append_assoc (flat_map spelling a.requests) a.rest left.0) ∙ sym same ∙ script.whole ∙ sym (append-nil (flat_map spelling requests)) in
-    let one = one_script start.store.hash a.requests requests (a.rest ++ left.0) [] a.course.each script.each (bad_on start.store.hash a.rest left.0 bad.0 wrong) (nothing_whole start.store.hash) both in
+    let one = reads.one start.store.hash a.requests requests (a.rest ++ left.0) [] a.course.each script.each (bad_on reads start.store.hash a.rest left.0 bad.0 wrong) (reads.nothing start.store.hash) both in
     nothing_bad start.store.hash a.rest (IsEnd (Some left.0)) bad.0 (nil_front a.rest left.0 one.1) wrong
 
-pub answered : (limit : ℕ) (start now : Moment) (number : ℕ) (bytes : List ℕ) (requests : List Request) → Answers limit start now number → IsFaultless start now → start.left ≡ Some bytes → IsScript start.store.hash bytes requests → length bytes ≤ limit → (number ≡ 0) ⊎ ((number ≡ 1) ⊎ (number ≡ 5))
-answered limit start now number bytes requests a f o script few = go (quiet limit start now number bytes a f o few)
+pub answered : (reads : ReadsOnce) (limit : ℕ) (start now : Moment) (number : ℕ) (bytes : List ℕ) (requests : List Request) → Answers limit start now number → IsFaultless start now → start.left ≡ Some bytes → IsScript start.store.hash bytes requests → length bytes ≤ limit → (number ≡ 0) ⊎ ((number ≡ 1) ⊎ (number ≡ 5))
+answered reads limit start now number bytes requests a f o script few = go (quiet limit start now number bytes a f o few)
   where
     go : (number ≡ 0) ⊎ ((number ≡ 1) ⊎ ((number ≡ 2) ⊎ (number ≡ 5))) → (number ≡ 0) ⊎ ((number ≡ 1) ⊎ (number ≡ 5))
     go (inl h) = inl h
     go (inr (inl h)) = inr (inl h)
-    go (inr (inr (inl h))) = absurd (not_malformed limit start now number bytes requests a o script h)
+    go (inr (inr (inl h))) = absurd (not_malformed reads limit start now number bytes requests a o script h)
     go (inr (inr (inr h))) = inr (inr h)
 
 pub other_bytes : (limit : ℕ) (start now : Moment) (number : ℕ) (bytes : List ℕ) → Answers limit start now number → IsFaultless start now → start.left ≡ Some bytes → ((requests : List Request) → IsScript start.store.hash bytes requests → ⊥) → length bytes ≤ limit → (number ≡ 2) ⊎ (number ≡ 5)
@@ -193,18 +193,18 @@ true_not_false : (b : Bool) → b ≡ true → b ≡ false → ⊥
 true_not_false b p q = cc
 
 -- the requests of a run that ended by itself are those of the script
-same_requests : (limit : ℕ) (start now : Moment) (number : ℕ) (bytes : List ℕ) (requests : List Request) → (a : Answers limit start now number) → start.left ≡ Some bytes → IsScript start.store.hash bytes requests → (number ≡ 0) ⊎ (number ≡ 1) → a.requests ≡ requests
-same_requests limit start now number bytes requests a o script h =
+same_requests : (reads : ReadsOnce) (limit : ℕ) (start now : Moment) (number : ℕ) (bytes : List ℕ) (requests : List Request) → (a : Answers limit start now number) → start.left ≡ Some bytes → IsScript start.store.hash bytes requests → (number ≡ 0) ⊎ (number ≡ 1) → a.requests ≡ requests
+same_requests reads limit start now number bytes requests a o script h =
     let all = all_read limit start now number bytes a o h in
     let both : flat_map spelling a.requests ++ [] ≡ flat_map spelling requests ++ [] = ap (λ (l : List ℕ). l ++ []) (sym all.1 ∙ script.whole) in
-    (one_script start.store.hash a.requests requests [] [] a.course.each script.each (nothing_whole start.store.hash) (nothing_whole start.store.hash) both).0
+    (reads.one start.store.hash a.requests requests [] [] a.course.each script.each (reads.nothing start.store.hash) (reads.nothing start.store.hash) both).0
 
-pub valid_commits : ValidIsMade → (limit : ℕ) (start now : Moment) (number : ℕ) (bytes : List ℕ) (requests : List Request) (state : State) → Answers limit start now number → IsFaultless start now → start.left ≡ Some bytes → IsScript start.store.hash bytes requests → length bytes ≤ limit → state_of start.store ≡ Some state → AreValid start.settings state requests → (number ≡ 0) ⊎ (number ≡ 5)
-valid_commits made limit start now number bytes requests state a f o script few told valid = go (answered limit start now number bytes requests a f o script few)
+pub valid_commits : ReadsOnce → ValidIsMade → (limit : ℕ) (start now : Moment) (number : ℕ) (bytes : List ℕ) (requests : List Request) (state : State) → Answers limit start now number → IsFaultless start now → start.left ≡ Some bytes → IsScript start.store.hash bytes requests → length bytes ≤ limit → state_of start.store ≡ Some state → AreValid start.settings state requests → (number ≡ 0) ⊎ (number ≡ 5)
+valid_commits reads made limit start now number bytes requests state a f o script few told valid = go (answered reads limit start now number bytes requests a f o script few)
   where
     some_refused : number ≡ 1 → ⊥
     some_refused h =
-        let same = same_requests limit start now number bytes requests a o script (inr h) in
+        let same = same_requests reads limit start now number bytes requests a o script (inr h) in
         let valid_run = subst (AreValid start.settings state) (sym same) valid in
         true_not_false (all_accepted a.replies) (valid_accepted made start.settings state start.store a.store a.requests a.replies told valid_run a.machine)
         (refused_some limit start now a.requests a.replies a.rest a.out a.store a.status a.ends (sym a.is ∙ h))

@@ -23,7 +23,9 @@ unfoldable pub IsValid : Settings → State → Request → Type 0
 IsValid settings state (Commit asked) = IsValidCommit settings (call_of asked) state
 IsValid settings state request = ⊥
 
--- Each request is valid in its own state of a run: the first at the start, and the next wherever the machine may be then.
+-- Each request is valid in its own state of a run: the first at the start, and the next wherever the
+-- machine may be then.
 unfoldable pub AreValid : Settings → State → List Request → Type 0
 AreValid settings state [] = Unit {0}
-AreValid settings state (request ∷ requests) = IsValid settings state request × ((reply : Reply) (next : State) → Step settings state request reply next → AreValid settings next requests)
+AreValid settings state (request ∷ requests) = IsValid settings state request
+    × ((reply : Reply) (next : State) → Step settings state request reply next → AreValid settings next requests)

@@ -33,7 +33,8 @@ code BadWords = 6
 code StoreFault = 7
 code TooLong = 8
 
--- What is there at a moment: the repository's settings and its store, what is left of the script and what was written, where told, and the counts of faults of source and sink.
+-- What is there at a moment: the repository's settings and its store, what is left of the script and what was written,
+-- where told, and the counts of faults of source and sink.
 pub record Moment : Type 0 where
   pub settings : Settings
   pub store : StoreState
@@ -42,8 +43,10 @@ pub record Moment : Type 0 where
   pub source_faults : ℕ
   pub sink_faults : ℕ
 
--- These requests were read whole and run, with these replies; after them these bytes were taken; these bytes were written; and this was the store after the last reply.
-pub record Course (start now : Moment) (requests : List Request) (replies : List Reply) (rest : List ℕ) (out : List ℕ) (store : StoreState) : Type 0 where
+-- These requests were read whole and run, with these replies; after them these bytes were taken; these bytes were
+-- written; and this was the store after the last reply.
+pub record Course (start now : Moment) (requests : List Request) (replies : List Reply) (rest : List ℕ)
+    (out : List ℕ) (store : StoreState) : Type 0 where
   pub takes : Takes start.left now.left (flat_map spelling requests ++ rest)
   pub each : AllByRecursion (IsRequest start.store.hash) requests
   pub run : ServesAll start.settings start.store requests replies store
@@ -61,7 +64,8 @@ pub record IsCut (replies : List Reply) (out : List ℕ) : Type 0 where
   pub short : more ≢ []
 
 -- a whole request of the store's kind stands at the front of the rest, and got no reply
-pub record GotNoReply (settings : Settings) (hash : HashKind) (old : StoreState) (rest : List ℕ) (error : ExecuteError) (new : StoreState) : Type 0 where
+pub record GotNoReply (settings : Settings) (hash : HashKind) (old : StoreState) (rest : List ℕ)
+    (error : ExecuteError) (new : StoreState) : Type 0 where
   pub request : Request
   pub more : List ℕ
   pub fits : IsRequest hash request
@@ -79,18 +83,35 @@ pub record IsOneTooMany (hash : HashKind) (rest : List ℕ) : Type 0 where
 abbrev pub taken_count : List Request → List ℕ → ℕ
 taken_count requests rest = length (flat_map spelling requests ++ rest)
 
--- How a run ends, by its status: after these requests and replies, with this rest of the bytes taken, these bytes written, and the store as it was after the last reply.
--- 0 and 1: the script was read to its end, and all of its replies were written. 2: the bytes after the requests are malformed. 3: a read failed; the bytes after the requests begin one, or are none. 4: a write failed within a reply. 5: memory ran out. 6: never, since nothing is run. 7: the store failed at a request. 8: a byte past the limit was taken; those before it, after the requests, begin one, or are none. (Ours; docs/SCRIPT.md.)
+-- How a run ends, by its status: after these requests and replies, with this rest of the bytes taken, these bytes
+-- written, and the store as it was after the last reply. 0 and 1: the script was read to its end, and all of its
+-- replies were written. 2: the bytes after the requests are malformed. 3: a read failed; the bytes after the requests
+-- begin one, or are none. 4: a write failed within a reply. 5: memory ran out. 6: never, since nothing is run. 7: the
+-- store failed at a request. 8: a byte past the limit was taken; those before it, after the requests, begin one, or are
+-- none. (Ours; docs/SCRIPT.md.)
 abbrev pub Ends : ℕ → Moment → Moment → List Request → List Reply → List ℕ → List ℕ → StoreState → Status → Type 0
-Ends limit start now requests replies rest out store Done = (taken_count requests rest ≤ limit) × (rest ≡ []) × IsEnd now.left × (out ≡ texts replies) × (now.store ≡ store) × (all_accepted replies ≡ true)
-Ends limit start now requests replies rest out store Refusals = (taken_count requests rest ≤ limit) × (rest ≡ []) × IsEnd now.left × (out ≡ texts replies) × (now.store ≡ store) × (all_accepted replies ≡ false)
-Ends limit start now requests replies rest out store Malformed = (taken_count requests rest ≤ limit) × ((newlines : ℕ) × IsBad start.store.hash rest (IsEnd now.left) newlines) × (out ≡ texts replies) × (now.store ≡ store)
-Ends limit start now requests replies rest out store ReadFault = (taken_count requests rest ≤ limit) × Begins start.store.hash rest × Rose start.source_faults now.source_faults × (out ≡ texts replies) × (now.store ≡ store)
-Ends limit start now requests replies rest out store WriteFault = (taken_count requests rest ≤ limit) × Rose start.sink_faults now.sink_faults × IsCut replies out × (now.store ≡ store)
-Ends limit start now requests replies rest out store NoMemory = (taken_count requests rest ≤ limit) × (((out ≡ texts replies) × ((now.store ≡ store) ⊎ GotNoReply start.settings start.store.hash store rest no_reply.NoMemory now.store)) ⊎ (IsCut replies out × (now.store ≡ store)))
+Ends limit start now requests replies rest out store Done = (taken_count requests rest ≤ limit) × (rest ≡ [])
+    × IsEnd now.left × (out ≡ texts replies) × (now.store ≡ store) × (all_accepted replies ≡ true)
+Ends limit start now requests replies rest out store Refusals = (taken_count requests rest ≤ limit) × (rest ≡ [])
+    × IsEnd now.left × (out ≡ texts replies) × (now.store ≡ store) × (all_accepted replies ≡ false)
+Ends limit start now requests replies rest out store Malformed = (taken_count requests rest ≤ limit)
+    × ((newlines : ℕ) × IsBad start.store.hash rest (IsEnd now.left) newlines) × (out ≡ texts replies)
+    × (now.store ≡ store)
+Ends limit start now requests replies rest out store ReadFault = (taken_count requests rest ≤ limit)
+    × Begins start.store.hash rest × Rose start.source_faults now.source_faults × (out ≡ texts replies)
+    × (now.store ≡ store)
+Ends limit start now requests replies rest out store WriteFault = (taken_count requests rest ≤ limit)
+    × Rose start.sink_faults now.sink_faults × IsCut replies out × (now.store ≡ store)
+Ends limit start now requests replies rest out store NoMemory = (taken_count requests rest ≤ limit)
+    × (((out ≡ texts replies) × ((now.store ≡ store)
+    ⊎ GotNoReply start.settings start.store.hash store rest no_reply.NoMemory now.store))
+    ⊎ (IsCut replies out × (now.store ≡ store)))
 Ends limit start now requests replies rest out store BadWords = ⊥
-Ends limit start now requests replies rest out store StoreFault = (taken_count requests rest ≤ limit) × (out ≡ texts replies) × ((fault : What) × GotNoReply start.settings start.store.hash store rest (no_reply.Store fault) now.store)
-Ends limit start now requests replies rest out store TooLong = (taken_count requests rest ≡ limit + 1) × IsOneTooMany start.store.hash rest × (out ≡ texts replies) × (now.store ≡ store)
+Ends limit start now requests replies rest out store StoreFault = (taken_count requests rest ≤ limit)
+    × (out ≡ texts replies) × ((fault : What)
+    × GotNoReply start.settings start.store.hash store rest (no_reply.Store fault) now.store)
+Ends limit start now requests replies rest out store TooLong = (taken_count requests rest ≡ limit + 1)
+    × IsOneTooMany start.store.hash rest × (out ≡ texts replies) × (now.store ≡ store)
 
 -- A whole run: some requests were read and run, and it ended so.
 pub record Served (limit : ℕ) (start now : Moment) (status : Status) : Type 0 where
@@ -124,7 +145,9 @@ IsApply (store ∷ []) = ⊥
 IsApply (store ∷ word ∷ []) = string_bytes word ≡ codes "apply"
 IsApply (store ∷ word ∷ more ∷ words) = ⊥
 
--- A run of a script up to the limit, which answers the number of its status: these requests were read whole and got these replies. Where the store tells its state, the replies are those of a run of the repository machine, from the state before to the one after the last reply; and the run ended by its status.
+-- A run of a script up to the limit, which answers the number of its status: these requests were read whole and got
+-- these replies. Where the store tells its state, the replies are those of a run of the repository machine, from the
+-- state before to the one after the last reply; and the run ended by its status.
 pub record Answers (limit : ℕ) (start now : Moment) (number : ℕ) : Type 0 where
   pub status : Status
   pub is : number ≡ code status

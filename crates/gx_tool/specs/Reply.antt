@@ -19,6 +19,7 @@ abbrev pub target_text : Target → List ℕ
 target_text (Object id) = hex_of id
 target_text (Symbolic name) = 64 ∷ name
 
+-- the word for a field
 abbrev pub field_text : Field → List ℕ
 field_text FileName = codes "file-name"
 field_text AuthorName = codes "author-name"
@@ -41,14 +42,16 @@ refusal_text (Find id) = codes "find" ++ 32 ∷ hex_of id
 refusal_text (Kind id actual) = codes "kind" ++ (32 ∷ hex_of id) ++ 32 ∷ kind_name actual
 refusal_text (Decode id) = codes "decode" ++ 32 ∷ hex_of id
 refusal_text (EmptyComponent path) = codes "empty-component" ++ 32 ∷ path
-refusal_text (Filename id kind name) = codes "filename" ++ (32 ∷ hex_of id) ++ (32 ∷ octal_of (mode_of kind)) ++ 32 ∷ name
+refusal_text (Filename id kind name) =
+    codes "filename" ++ (32 ∷ hex_of id) ++ (32 ∷ octal_of (mode_of kind)) ++ 32 ∷ name
 refusal_text (Missing id name) = codes "missing" ++ (32 ∷ hex_of id) ++ 32 ∷ name
 refusal_text (Unwritable field) = codes "unwritable" ++ 32 ∷ field_text field
 refusal_text (Cycle name) = codes "cycle" ++ 32 ∷ name
 refusal_text (Depth name) = codes "depth" ++ 32 ∷ name
 refusal_text (MustExist name) = codes "must-exist" ++ 32 ∷ name
 refusal_text (MustNotExist name actual) = codes "must-not-exist" ++ (32 ∷ name) ++ 32 ∷ target_text actual
-refusal_text (OutOfDate name expected actual) = codes "out-of-date" ++ (32 ∷ name) ++ (32 ∷ target_text expected) ++ 32 ∷ target_text actual
+refusal_text (OutOfDate name expected actual) =
+    codes "out-of-date" ++ (32 ∷ name) ++ (32 ∷ target_text expected) ++ 32 ∷ target_text actual
 refusal_text (Conflict name other) = codes "conflict" ++ (32 ∷ name) ++ 32 ∷ other
 
 -- A reply is a line: `ok` and what was made, or `no` and why not. (Ours; docs/SCRIPT.md.)
@@ -60,9 +63,11 @@ reply_text (Refused refusal) = codes "no " ++ refusal_text refusal ++ 10 ∷ []
 abbrev pub texts : List Reply → List ℕ
 texts replies = flat_map reply_text replies
 
+-- the reply is an `ok`
 abbrev pub is_accepted : Reply → Bool
 is_accepted (Committed id) = true
 is_accepted (Refused refusal) = false
 
+-- each reply is an `ok`
 abbrev pub all_accepted : List Reply → Bool
 all_accepted replies = list_all is_accepted replies

@@ -19,7 +19,14 @@ use Rattle.gx_tool.specs.declared.executing.ExecuteError.TheVariants as no_reply
 
 -- the call that a `commit` asks for
 abbrev pub call_of : Asked → CommitRequest
-call_of asked = record { committer = asked.committer; author = asked.author; reference = asked.name; message = asked.message; parents = asked.parents; edits = asked.edits }
+call_of asked = record {
+  committer = asked.committer;
+  author = asked.author;
+  reference = asked.name;
+  message = asked.message;
+  parents = asked.parents;
+  edits = asked.edits;
+}
 
 -- The submodules of a commit name commits. Other forms have none.
 unfoldable pub HasModuleIds : Request → Type 0
@@ -44,32 +51,40 @@ reply_to_refusal (error.NameConflict name other) = Ok (Refused (Conflict name ot
 reply_to_refusal (error.Store fault) = Err (no_reply.Store fault)
 reply_to_refusal error.NoMemory = Err no_reply.NoMemory
 
+-- what is replied to an answer of `commit_edits`, if anything is
 abbrev pub reply_to : Result ObjectId CommitEditsError → Result Reply ExecuteError
 reply_to (Ok id) = Ok (Committed id)
 reply_to (Err refusal) = reply_to_refusal refusal
 
 -- The commit is refused: the reply tells of a refusal whose cause holds, and nothing is changed.
-pub record IsDeclined (settings : Settings) (r : CommitRequest) (old : StoreState) (reply : Reply) (new : StoreState) : Type 0 where
+pub record IsDeclined (settings : Settings) (r : CommitRequest) (old : StoreState) (reply : Reply)
+    (new : StoreState) : Type 0 where
   pub refusal : CommitEditsError
   pub told : reply_to_refusal refusal ≡ Ok reply
   pub cause : CommitEditsCauses settings r old old refusal
   pub same : new ≡ old
 
--- From the old state a store may serve the request with the reply and be in the new state: a commit that is accepted is made, and nothing else; one that is refused has a cause, and changes nothing. Any other form is answered as not served yet, and changes nothing. (Ours; docs/SCRIPT.md.)
+-- From the old state a store may serve the request with the reply and be in the new state: a commit that is accepted is
+-- made, and nothing else; one that is refused has a cause, and changes nothing. Any other form is answered as not
+-- served yet, and changes nothing. (Ours; docs/SCRIPT.md.)
 unfoldable pub Serves : Settings → StoreState → Request → Reply → StoreState → Type 0
 Serves settings old (Commit asked) (Committed id) new = Commits settings (call_of asked) old id new
 Serves settings old (Commit asked) (Refused refusal) new = IsDeclined settings (call_of asked) old (Refused refusal) new
 Serves settings old request reply new = (reply ≡ Refused Unsupported) × (new ≡ old)
 
--- A request may get no reply for a fault of the store, which has a cause, or for lack of memory. Then some of its objects may be stored, and after a fault of a write its reference may be moved. Only commits ask a store.
+-- A request may get no reply for a fault of the store, which has a cause, or for lack of memory. Then some of its
+-- objects may be stored, and after a fault of a write its reference may be moved. Only commits ask a store.
 unfoldable pub Stops : Settings → StoreState → Request → StoreState → ExecuteError → Type 0
-Stops settings old (Commit asked) new (no_reply.Store fault) = CommitEditsCauses settings (call_of asked) old new (error.Store fault) × Leaves settings (call_of asked) old new (error.Store fault)
+Stops settings old (Commit asked) new (no_reply.Store fault) =
+    CommitEditsCauses settings (call_of asked) old new (error.Store fault)
+    × Leaves settings (call_of asked) old new (error.Store fault)
 Stops settings old (Commit asked) new no_reply.NoMemory = Leaves settings (call_of asked) old new error.NoMemory
 Stops settings old request new refusal = ⊥
 
 -- A store may serve these requests with these replies, one after another.
 unfoldable pub ServesAll : Settings → StoreState → List Request → List Reply → StoreState → Type 0
 ServesAll settings old [] [] new = new ≡ old
-ServesAll settings old (request ∷ requests) (reply ∷ replies) new = (mid : StoreState) × Serves settings old request reply mid × ServesAll settings mid requests replies new
+ServesAll settings old (request ∷ requests) (reply ∷ replies) new = (mid : StoreState)
+    × Serves settings old request reply mid × ServesAll settings mid requests replies new
 ServesAll settings old [] (reply ∷ replies) new = ⊥
 ServesAll settings old (request ∷ requests) [] new = ⊥

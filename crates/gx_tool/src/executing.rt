@@ -83,8 +83,10 @@ fn commit<S: Store>(
     asked: &CommitRequest,
 ) -> Result<Reply, ExecuteError>
     requires { HaveModuleIds asked.now.edits }
-    ensures reply { IfOk result (λ reply. IsReply (settings_of repo.old) (S.state (store_of repo.old)) (Request.Commit asked.now) reply (S.state (store_of repo.new))) }
-    ensures stops { IfErr result (Stops (settings_of repo.old) (S.state (store_of repo.old)) (Request.Commit asked.now) (S.state (store_of repo.new))) }
+    ensures reply { IfOk result (λ reply. IsReply (settings_of repo.old) (S.state (store_of repo.old))
+        (Request.Commit asked.now) reply (S.state (store_of repo.new))) }
+    ensures stops { IfErr result (Stops (settings_of repo.old) (S.state (store_of repo.old))
+        (Request.Commit asked.now) (S.state (store_of repo.new))) }
     ensures settings { settings_of repo.new ≡ settings_of repo.old }
 {
     reply_to(repo.commit_edits(
@@ -106,8 +108,10 @@ pub fn execute<S: Store>(
     request: &Request,
 ) -> Result<Reply, ExecuteError>
     requires { HasModuleIds request.now }
-    ensures reply { IfOk result (λ reply. IsReply (settings_of repo.old) (S.state (store_of repo.old)) request.now reply (S.state (store_of repo.new))) }
-    ensures stops { IfErr result (Stops (settings_of repo.old) (S.state (store_of repo.old)) request.now (S.state (store_of repo.new))) }
+    ensures reply { IfOk result (λ reply. IsReply (settings_of repo.old)
+        (S.state (store_of repo.old)) request.now reply (S.state (store_of repo.new))) }
+    ensures stops { IfErr result (Stops (settings_of repo.old) (S.state (store_of repo.old)) request.now
+        (S.state (store_of repo.new))) }
     ensures settings { settings_of repo.new ≡ settings_of repo.old }
 {
     match request {

@@ -8,40 +8,65 @@ ghost use Rattle.gx_script.specs.declared.request.Request.{Request};
 ghost use Rattle.gx_script.specs.Script.{IsScript};
 ghost use Rattle.gx_tool.specs.Completeness.{IsFaultless, AreValid};
 ghost use Rattle.gx_tool.specs.Course.{Moment, Answers};
+ghost use Rattle.gx_tool.specs.ReadsOnce.{ReadsOnce};
+
+/// The laws of the language that those here rest on.
+fn reads_once()
+    ensures { ReadsOnce }
+{
+    gx_script::laws::what_is_bad_has_no_whole_request();
+    gx_script::laws::no_bytes_are_no_request();
+    gx_script::laws::a_script_is_read_one_way();
+}
 
 /// The number is 8 exactly where a byte past the limit was taken.
 pub fn eight_is_a_byte_past_the_limit()
-    ensures { (limit : ℕ) (start now : Moment) (number : ℕ) (taken left : List ℕ) → Answers limit start now number → start.left ≡ Some (taken ++ left) → now.left ≡ Some left → (number ≡ 8) ↔ (length taken ≡ limit + 1) }
+    ensures { (limit : ℕ) (start now : Moment) (number : ℕ) (taken left : List ℕ) → Answers limit start now number
+        → start.left ≡ Some (taken ++ left) → now.left ≡ Some left → (number ≡ 8) ↔ (length taken ≡ limit + 1) }
 {}
 
 /// The number is 0 or 1 only where the source held a script, and was read to its end.
 pub fn zero_and_one_are_a_whole_script()
-    ensures { (limit : ℕ) (start now : Moment) (number : ℕ) (bytes : List ℕ) → Answers limit start now number → start.left ≡ Some bytes → (number ≡ 0) ⊎ (number ≡ 1)
+    ensures { (limit : ℕ) (start now : Moment) (number : ℕ) (bytes : List ℕ) → Answers limit start now number
+        → start.left ≡ Some bytes → (number ≡ 0) ⊎ (number ≡ 1)
         → (now.left ≡ Some []) × ((requests : List Request) × IsScript start.store.hash bytes requests) }
 {}
 
 /// The number is not 2 where the source held a script.
 pub fn a_script_is_not_malformed()
-    ensures { (limit : ℕ) (start now : Moment) (number : ℕ) (bytes : List ℕ) (requests : List Request) → Answers limit start now number → start.left ≡ Some bytes → IsScript start.store.hash bytes requests → number ≡ 2 → ⊥ }
-{}
+    ensures { (limit : ℕ) (start now : Moment) (number : ℕ) (bytes : List ℕ) (requests : List Request)
+        → Answers limit start now number → start.left ≡ Some bytes → IsScript start.store.hash bytes requests
+        → number ≡ 2 → ⊥ }
+{
+    reads_once();
+}
 
 /// A script within the limit is answered whole, unless memory runs out, where nothing fails.
 pub fn a_script_is_answered()
-    ensures { (limit : ℕ) (start now : Moment) (number : ℕ) (bytes : List ℕ) (requests : List Request) → Answers limit start now number → IsFaultless start now
-        → start.left ≡ Some bytes → IsScript start.store.hash bytes requests → length bytes ≤ limit → (number ≡ 0) ⊎ ((number ≡ 1) ⊎ (number ≡ 5)) }
-{}
+    ensures { (limit : ℕ) (start now : Moment) (number : ℕ) (bytes : List ℕ) (requests : List Request)
+        → Answers limit start now number → IsFaultless start now
+        → start.left ≡ Some bytes → IsScript start.store.hash bytes requests → length bytes ≤ limit → (number ≡ 0)
+        ⊎ ((number ≡ 1) ⊎ (number ≡ 5)) }
+{
+    reads_once();
+}
 
 /// Other bytes within the limit are malformed, unless memory runs out, where nothing fails.
 pub fn other_bytes_are_malformed()
-    ensures { (limit : ℕ) (start now : Moment) (number : ℕ) (bytes : List ℕ) → Answers limit start now number → IsFaultless start now
-        → start.left ≡ Some bytes → ((requests : List Request) → IsScript start.store.hash bytes requests → ⊥) → length bytes ≤ limit → (number ≡ 2) ⊎ (number ≡ 5) }
+    ensures { (limit : ℕ) (start now : Moment) (number : ℕ) (bytes : List ℕ) → Answers limit start now number
+        → IsFaultless start now
+        → start.left ≡ Some bytes → ((requests : List Request) → IsScript start.store.hash bytes requests → ⊥)
+        → length bytes ≤ limit → (number ≡ 2) ⊎ (number ≡ 5) }
 {}
 
 /// A script within the limit of commits that are valid, each in its own state of the run, gets an `ok` for each, unless
 /// memory runs out, where nothing fails and the store tells its state.
 pub fn valid_commits_are_accepted()
-    ensures { (limit : ℕ) (start now : Moment) (number : ℕ) (bytes : List ℕ) (requests : List Request) (state : State) → Answers limit start now number → IsFaultless start now
-        → start.left ≡ Some bytes → IsScript start.store.hash bytes requests → length bytes ≤ limit → state_of start.store ≡ Some state → AreValid start.settings state requests → (number ≡ 0) ⊎ (number ≡ 5) }
+    ensures { (limit : ℕ) (start now : Moment) (number : ℕ) (bytes : List ℕ) (requests : List Request)
+        (state : State) → Answers limit start now number → IsFaultless start now
+        → start.left ≡ Some bytes → IsScript start.store.hash bytes requests → length bytes ≤ limit
+        → state_of start.store ≡ Some state → AreValid start.settings state requests → (number ≡ 0) ⊎ (number ≡ 5) }
 {
+    reads_once();
     gix::laws::valid_is_made();
 }

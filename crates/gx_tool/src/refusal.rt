@@ -158,7 +158,8 @@ fn push_with_target(
     name: &FullName,
     target: &Target,
 ) -> Result<(), NoMemory>
-    ensures ok { OnOk result (out.new.items ≡ out.old.items ++ (word.now ++ (32 ∷ name.now) ++ 32 ∷ target_text target.now)) }
+    ensures ok { OnOk result (out.new.items
+        ≡ out.old.items ++ (word.now ++ (32 ∷ name.now) ++ 32 ∷ target_text target.now)) }
 {
     push_with(out, word, name.as_slice())?;
     push_target(out, target)
@@ -182,7 +183,8 @@ fn push_out_of_date(
     expected: &Target,
     actual: &Target,
 ) -> Result<(), NoMemory>
-    ensures ok { OnOk result (out.new.items ≡ out.old.items ++ refusal_text (Refusal.OutOfDate name.now expected.now actual.now)) }
+    ensures ok { OnOk result (out.new.items
+        ≡ out.old.items ++ refusal_text (Refusal.OutOfDate name.now expected.now actual.now)) }
 {
     push_with_target(out, b"out-of-date", name, expected)?;
     push_target(out, actual)

@@ -45,8 +45,22 @@ fn serve<S: Store, I: Source, O: Sink>(
     output: &mut O,
 ) -> Status
     ensures served { Served limit
-        record { settings = settings_of repo.old; store = S.state (store_of repo.old); left = I.left input.old; written = O.written output.old; source_faults = I.faults input.old; sink_faults = O.faults output.old }
-        record { settings = settings_of repo.new; store = S.state (store_of repo.new); left = I.left input.new; written = O.written output.new; source_faults = I.faults input.new; sink_faults = O.faults output.new }
+        record {
+          settings = settings_of repo.old;
+          store = S.state (store_of repo.old);
+          left = I.left input.old;
+          written = O.written output.old;
+          source_faults = I.faults input.old;
+          sink_faults = O.faults output.old;
+        }
+        record {
+          settings = settings_of repo.new;
+          store = S.state (store_of repo.new);
+          left = I.left input.new;
+          written = O.written output.new;
+          source_faults = I.faults input.new;
+          sink_faults = O.faults output.new;
+        }
         result }
     ensures settings { settings_of repo.new ≡ settings_of repo.old }
 {
@@ -98,10 +112,25 @@ pub fn run_limited<S: Store, I: Source, O: Sink>(
     limit: u64,
 ) -> u8
     ensures bad_words { (result ≡ 6) ↔ (IsApply words.now → ⊥) }
-    ensures untouched { (IsApply words.now → ⊥) → (repo.new ≡ repo.old) × (input.new ≡ input.old) × (output.new ≡ output.old) }
+    ensures untouched { (IsApply words.now → ⊥) → (repo.new ≡ repo.old) × (input.new ≡ input.old)
+        × (output.new ≡ output.old) }
     ensures answers { IsApply words.now → Answers limit
-        record { settings = settings_of repo.old; store = S.state (store_of repo.old); left = I.left input.old; written = O.written output.old; source_faults = I.faults input.old; sink_faults = O.faults output.old }
-        record { settings = settings_of repo.new; store = S.state (store_of repo.new); left = I.left input.new; written = O.written output.new; source_faults = I.faults input.new; sink_faults = O.faults output.new }
+        record {
+          settings = settings_of repo.old;
+          store = S.state (store_of repo.old);
+          left = I.left input.old;
+          written = O.written output.old;
+          source_faults = I.faults input.old;
+          sink_faults = O.faults output.old;
+        }
+        record {
+          settings = settings_of repo.new;
+          store = S.state (store_of repo.new);
+          left = I.left input.new;
+          written = O.written output.new;
+          source_faults = I.faults input.new;
+          sink_faults = O.faults output.new;
+        }
         result }
     ensures settings { settings_of repo.new ≡ settings_of repo.old }
 {
@@ -128,10 +157,25 @@ pub fn run<S: Store, I: Source, O: Sink>(
     output: &mut O,
 ) -> u8
     ensures bad_words { (result ≡ 6) ↔ (IsApply words.now → ⊥) }
-    ensures untouched { (IsApply words.now → ⊥) → (repo.new ≡ repo.old) × (input.new ≡ input.old) × (output.new ≡ output.old) }
+    ensures untouched { (IsApply words.now → ⊥) → (repo.new ≡ repo.old) × (input.new ≡ input.old)
+        × (output.new ≡ output.old) }
     ensures answers { IsApply words.now → Answers (2 ^ 40)
-        record { settings = settings_of repo.old; store = S.state (store_of repo.old); left = I.left input.old; written = O.written output.old; source_faults = I.faults input.old; sink_faults = O.faults output.old }
-        record { settings = settings_of repo.new; store = S.state (store_of repo.new); left = I.left input.new; written = O.written output.new; source_faults = I.faults input.new; sink_faults = O.faults output.new }
+        record {
+          settings = settings_of repo.old;
+          store = S.state (store_of repo.old);
+          left = I.left input.old;
+          written = O.written output.old;
+          source_faults = I.faults input.old;
+          sink_faults = O.faults output.old;
+        }
+        record {
+          settings = settings_of repo.new;
+          store = S.state (store_of repo.new);
+          left = I.left input.new;
+          written = O.written output.new;
+          source_faults = I.faults input.new;
+          sink_faults = O.faults output.new;
+        }
         result }
     ensures settings { settings_of repo.new ≡ settings_of repo.old }
 {

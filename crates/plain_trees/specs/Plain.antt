@@ -1,5 +1,5 @@
 -- What the plain program needs of directories: a measure, a code that tells them apart, and what it tests of them.
-use Rattle.std.specs.Prelude.{◌≡◌, ℕ, ◌+◌, ◌⊎◌, List, ◌++◌, Some, refl}
+use Rattle.std.specs.Prelude.{◌≡◌, ℕ, ◌+◌, ◌⊎◌, if◌then◌else◌, List, [], ◌∷◌, ◌++◌, Some, refl, bytes_eq}
 use Rattle.std.specs.Coded.{Coded, code_by, coded_ℕ, coded_list, coded×, coded⊎}
 use Rattle.std.proofs.Common.{inl, inr}
 use base.Stored.{Gv}
@@ -77,3 +77,21 @@ StandsIn m above directory = (p : Path) (leaf : Leaf) → leaf_at directory p �
 -- The directory has at the path of each edit what the map has there.
 abbrev pub AgreesAt : PathMap → Directory → List PathEdit → Type 0
 AgreesAt m directory edits = AllByRecursion (λ edit. leaf_at directory (components (path_of edit)) ≡ m (components (path_of edit))) edits
+
+-- what a directory has below its first entry, where that is a directory of the name
+abbrev pub first_inner : List ℕ → Directory → Directory
+first_inner n End = End
+first_inner n (File m leaf rest) = End
+first_inner n (Sub m inner rest) = if bytes_eq m n then inner else End
+
+-- a directory without its first entry, where that is a directory of the name
+abbrev pub without_first : List ℕ → Directory → Directory
+without_first n End = End
+without_first n (File m leaf rest) = File m leaf rest
+without_first n (Sub m inner rest) = if bytes_eq m n then rest else Sub m inner rest
+
+-- A directory with a leaf more, before all others: in its first entry, where that is a directory of the first name.
+abbrev pub with_first_leaf : Path → Leaf → Directory → Directory
+with_first_leaf [] leaf d = d
+with_first_leaf (n ∷ []) leaf d = File n leaf d
+with_first_leaf (n ∷ c ∷ p) leaf d = Sub n (with_first_leaf (c ∷ p) leaf (first_inner n d)) (without_first n d)

@@ -1,11 +1,12 @@
 // The canonical directory of what edits make of the empty tree. How it is built is not proved: it is tested at the end.
-ghost use Rattle.std.specs.Prelude.{IfOk, IfSome};
+ghost use Rattle.std.specs.Prelude.{◌≡◌, IfOk, IfSome};
 ghost use Rattle.gx_edit.specs.PathMap.{no_paths, edited};
 ghost use Rattle.gx_edit.specs.CanonicalTree.{StandsFor};
+ghost use Rattle.plain_trees.specs.Plain.{first_inner, without_first, with_first_leaf};
 
 use crate::edits::edited;
 use crate::listing::{Line, Listing};
-use crate::names::components;
+use crate::names::{components, is_same_name};
 use gx_edit::{Leaf, PathEdit};
 use gx_hash::{Bytes, HashKind, NoMemory};
 use std::alloc::Global;
@@ -57,35 +58,34 @@ fn sorted_paths(alloc: Global, edits: &[PathEdit]) -> Result<Vec<Vec<u8>>, NoMem
 impl Listing {
     /// The directory with a leaf before all others: in its first entry, where that is a directory of the path's first
     /// name.
-    pub fn with_leaf(self, alloc: Global, path: &[Bytes], leaf: Leaf) -> Result<Listing, NoMemory> {
+    pub fn with_leaf(self, alloc: Global, path: &[Bytes], leaf: Leaf) -> Result<Listing, NoMemory>
+        ensures { IfOk result (λ listing. listing ≡ with_first_leaf path.now leaf self) }
+    {
         let Some((name, below)) = path.split_first() else {
             return Ok(self);
         };
         if below.is_empty() {
             return Listing::file(alloc, name.as_slice(), leaf, self);
         }
-        let (inner, rest) = self.split_first(name);
+        let (inner, rest) = self.split_first(name.as_slice());
         let inner = inner.with_leaf(alloc, below, leaf)?;
         Listing::sub(alloc, name.as_slice(), inner, rest)
     }
 
-    /// What the first entry has below it, where it is a directory of that name, and the entries that follow.
-    fn split_first(self, name: &Bytes) -> (Listing, Listing) {
-        if !self.begins_with(name) {
-            return (Listing::end(), self);
-        }
+    /// What the first entry has below it, where it is a directory of that name, and the entries after it.
+    fn split_first(self, name: &[u8]) -> (Listing, Listing)
+        ensures inner { result.0 ≡ first_inner name.now self }
+        ensures rest { result.1 ≡ without_first name.now self }
+    {
         match self.first {
-            Line::Sub(_first, inner, rest) => (Box::into_inner(inner), Box::into_inner(rest)),
-            Line::File(_first, _leaf, rest) => (Listing::end(), Box::into_inner(rest)),
-            Line::End => (Listing::end(), Listing::end()),
-        }
-    }
-
-    /// Whether the first entry is a directory of that name.
-    fn begins_with(&self, name: &Bytes) -> bool {
-        match &self.first {
-            Line::Sub(first, _, _) => first.as_slice() == name.as_slice(),
-            _ => false,
+            Line::Sub(first, inner, rest) => {
+                if is_same_name(first.as_slice(), name) {
+                    return (Box::into_inner(inner), Box::into_inner(rest));
+                }
+                let first = Line::Sub(first, inner, rest);
+                (Listing::end(), Listing { first })
+            }
+            first => (Listing::end(), Listing { first }),
         }
     }
 }

@@ -66,6 +66,7 @@ pub fn again(alloc: Global, read: &[u8], written: &[u8]) -> Result<Vec<u8>, Prob
 /// What a call answers that fails so. Only where memory ran out the rows end there.
 pub fn failure(alloc: Global, error: ProbeError) -> Result<Vec<u8>, ProbeError> {
     match error {
+        ProbeError::UnknownCall => word(alloc, "unknown"),
         ProbeError::Decode { at: place } => at(alloc, "decode", place),
         ProbeError::BadLine => word(alloc, "bad-line"),
         ProbeError::Unwritable => word(alloc, "unwritable"),

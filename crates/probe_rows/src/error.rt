@@ -9,6 +9,9 @@ use thiserror::Error;
 /// library's error itself.
 #[derive(Clone, Copy, Debug, PartialEq, Eq, Error)]
 pub enum ProbeError {
+    /// No call of this name takes such fields.
+    #[error("no such call")]
+    UnknownCall,
     #[error("no such object from byte {at} on")]
     Decode { at: usize },
     #[error("a line is no mode, id and path of a leaf")]

@@ -5,37 +5,67 @@
 //! `*N` repeats. A row goes on in lines that begin with two spaces; one of them that begins with `+` continues the last
 //! field. The answer stands on the row's last line.
 
-use crate::answers::{failure, word};
+use crate::answers::failure;
 use crate::error::ProbeError;
 use crate::fields::{Fields, Unread};
 use std::alloc::Global;
+use std::str;
 
 /// What is printed in place of a line that is no part of a row.
 const MALFORMED: &[u8] = b"malformed row\n";
 
 const CONTINUES: &[u8] = b"  ";
 
+/// What answers the calls of rows: the libraries that a program asks.
+pub trait Answer {
+    /// What the call answers, or why there is no answer: of a call that is not known, `UnknownCall`.
+    fn answer(&self, alloc: Global, call: &str, fields: &[Vec<u8>]) -> Result<Vec<u8>, ProbeError>;
+}
+
+/// The rows of the input, with what the libraries answer in place of what is expected.
+pub fn answered<A: Answer>(
+    alloc: Global,
+    libraries: &A,
+    input: &[u8],
+) -> Result<Vec<u8>, ProbeError> {
+    let mut rows = Rows::new(alloc);
+    for line in input
+        .strip_suffix(b"\n")
+        .unwrap_or(input)
+        .split(|byte| *byte == b'\n')
+    {
+        if rows.read(line)? {
+            let found = answer_to(alloc, libraries, rows.fields());
+            rows.answer(found)?;
+        }
+    }
+    rows.into_output()
+}
+
+fn answer_to<A: Answer>(
+    alloc: Global,
+    libraries: &A,
+    row: &[Vec<u8>],
+) -> Result<Vec<u8>, ProbeError> {
+    let [call, fields @ ..] = row else {
+        return Err(ProbeError::UnknownCall);
+    };
+    match str::from_utf8(call) {
+        Ok(call) => libraries.answer(alloc, call, fields),
+        Err(_) => Err(ProbeError::UnknownCall),
+    }
+}
+
 /// Rows that are read line by line, and what is printed of them.
-///
-/// ```
-/// let mut rows = Rows::new(alloc);
-/// for line in lines {
-///     if rows.read(line)? {
-///         let found = answer(alloc, rows.fields());
-///         rows.answer(found)?;
-///     }
-/// }
-/// let output = rows.into_output()?;
-/// ```
 #[derive(Drop)]
-pub struct Rows {
+struct Rows {
     alloc: Global,
     row: Fields,
     output: Vec<u8>,
 }
 
 impl Rows {
-    pub fn new(alloc: Global) -> Rows {
+    fn new(alloc: Global) -> Rows {
         Rows {
             alloc,
             row: Fields::new(alloc),
@@ -44,7 +74,7 @@ impl Rows {
     }
 
     /// Reads a line, and says whether it ends a row. That is answered before the next line is read.
-    pub fn read(&mut self, line: &[u8]) -> Result<bool, ProbeError> {
+    fn read(&mut self, line: &[u8]) -> Result<bool, ProbeError> {
         if !self.row.is_open() && is_comment(line) {
             self.print_line(line)?;
             return Ok(false);
@@ -74,15 +104,14 @@ impl Rows {
     }
 
     /// The fields of the row: the call, and what it is given.
-    pub fn fields(&self) -> &[Vec<u8>] {
+    fn fields(&self) -> &[Vec<u8>] {
         self.row.as_slice()
     }
 
-    /// Prints what the call answers, or `unknown` where no such call is known, and forgets the row.
-    pub fn answer(&mut self, found: Result<Option<Vec<u8>>, ProbeError>) -> Result<(), ProbeError> {
+    /// Prints what the call answers, and forgets the row.
+    fn answer(&mut self, found: Result<Vec<u8>, ProbeError>) -> Result<(), ProbeError> {
         let answer = match found {
-            Ok(Some(answer)) => answer,
-            Ok(None) => word(self.alloc, "unknown")?,
+            Ok(answer) => answer,
             Err(error) => failure(self.alloc, error)?,
         };
         self.row.clear();
@@ -90,7 +119,7 @@ impl Rows {
     }
 
     /// All that is printed. A row without an answer is malformed.
-    pub fn into_output(self) -> Result<Vec<u8>, ProbeError> {
+    fn into_output(self) -> Result<Vec<u8>, ProbeError> {
         let mut output = self.output;
         if self.row.is_open() {
             output.extend_from_slice(MALFORMED)?;

@@ -8,11 +8,11 @@ use gx_hash::HashKind;
 use gx_script::ScriptReader;
 use gx_store::StdSource;
 use probe_rows::answers::word;
-use probe_rows::{ProbeError, Rows};
+use probe_rows::{Answer, ProbeError, answer_rows};
 use scripts::{SCRIPT_LIMIT, Told, Watched};
 use std::alloc::Global;
 use std::env;
-use std::io::{self, Read, Write};
+use std::io::{self, Write};
 use std::process::ExitCode;
 
 const USAGE: &str = "usage: script_probe (rows | sha1 | sha256) < INPUT
@@ -46,12 +46,7 @@ fn main(rt: HostRuntime) -> ExitCode {
 
 fn status_of(rt: &HostRuntime) -> u8 {
     match read_args(rt) {
-        Ok(Some(Job::Rows)) => answer_rows(rt),
-        Ok(Some(Job::Script(hash))) => match tell_script(rt, hash) {
-            Ok(true) => 0,
-            Ok(false) => WRONG,
-            Err(_) => FAILED,
-        },
+        Ok(Some(job)) => done(rt, job),
         Ok(None) => {
             let _heard = eprint!(rt; "{USAGE}");
             BAD_WORDS
@@ -78,54 +73,32 @@ fn read_words(words: &[String]) -> Option<Job> {
     }
 }
 
-fn answer_rows(rt: &HostRuntime) -> u8 {
-    match read_input(rt) {
-        Ok(input) => printed(rt, &input),
+fn done(rt: &HostRuntime, job: Job) -> u8 {
+    match outcome(rt, job) {
+        Ok(true) => 0,
+        Ok(false) => WRONG,
         Err(_) => FAILED,
     }
 }
 
-fn read_input(rt: &HostRuntime) -> io::Result<Vec<u8>> {
-    let mut input = Vec::new(rt.alloc());
-    rt.reader().read_to_end(&mut input)?;
-    Ok(input)
-}
-
-fn printed(rt: &HostRuntime, input: &[u8]) -> u8 {
-    match answered(rt.alloc(), input) {
-        Ok(output) => written(rt, &output),
-        Err(_) => FAILED,
-    }
-}
-
-fn written(rt: &HostRuntime, output: &[u8]) -> u8 {
-    match io::writer(rt).write_all(output) {
-        Ok(()) => 0,
-        Err(_) => FAILED,
-    }
-}
-
-/// The rows with what the library answers in place of what is expected.
-fn answered(alloc: Global, input: &[u8]) -> Result<Vec<u8>, ProbeError> {
-    let mut rows = Rows::new(alloc);
-    for line in input
-        .strip_suffix(b"\n")
-        .unwrap_or(input)
-        .split(|byte| *byte == b'\n')
-    {
-        if rows.read(line)? {
-            let found = answer(alloc, rows.fields());
-            rows.answer(found)?;
+/// Does the job, and answers whether what was read was right.
+fn outcome(rt: &HostRuntime, job: Job) -> Result<bool, ProbeError> {
+    match job {
+        Job::Rows => {
+            answer_rows(rt.alloc(), &ScriptRows, rt.reader(), io::writer(rt))?;
+            Ok(true)
         }
+        Job::Script(hash) => tell_script(rt, hash),
     }
-    rows.into_output()
 }
 
-fn answer(alloc: Global, row: &[Vec<u8>]) -> Result<Option<Vec<u8>>, ProbeError> {
-    let [call, fields @ ..] = row else {
-        return Ok(None);
-    };
-    scripts::answer(alloc, call, fields)
+/// The library that reads scripts.
+struct ScriptRows;
+
+impl Answer for ScriptRows {
+    fn answer(&self, alloc: Global, call: &str, fields: &[Vec<u8>]) -> Result<Vec<u8>, ProbeError> {
+        scripts::answer(alloc, call, fields)
+    }
 }
 
 /// Tells what a script asks for, request by request, and answers whether it was read to its end.

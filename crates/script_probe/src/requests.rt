@@ -29,18 +29,13 @@ pub fn push_request(
         Request::Identity(who) => push_who(alloc, line, "identity", who),
         Request::Tag(tag) => push_tag(alloc, line, tag),
         Request::Ref(change) => push_ref(alloc, line, change),
-        Request::Delete { name, expect } => {
-            push_named(alloc, line, "delete", name.as_slice())?;
-            push_expect(alloc, line, expect)
-        }
+        Request::Delete { name, expect } => push_deletion(alloc, line, name.as_slice(), expect),
         Request::NoteSet(note) => push_note(alloc, line, note),
         Request::NoteDrop { reference, object } => {
-            push_named(alloc, line, "note-drop", reference.as_slice())?;
-            push_id(line, object)
+            push_note_drop(alloc, line, reference.as_slice(), object)
         }
         Request::NoteGet { object, patterns } => {
-            push_with_id(line, "note-get", object)?;
-            push_patterns(alloc, line, patterns.as_slice())
+            push_note_get(alloc, line, object, patterns.as_slice())
         }
         other => push_question(alloc, line, other),
     }
@@ -63,22 +58,74 @@ fn push_question(alloc: Global, line: &mut Vec<u8>, request: &Request) -> Result
 fn push_history(alloc: Global, line: &mut Vec<u8>, request: &Request) -> Result<(), ProbeError> {
     match request {
         Request::Paths(id) => push_with_id(line, "paths", id),
-        Request::Walk { order, ids } => {
-            push_order(alloc, line, *order)?;
-            push_walk_ids(alloc, line, ids.as_slice())
-        }
-        Request::Bases { first, others } => {
-            push_with_id(line, "bases", first)?;
-            push_ids(alloc, line, "others", others.as_slice())
-        }
+        Request::Walk { order, ids } => push_walk(alloc, line, *order, ids.as_slice()),
+        Request::Bases { first, others } => push_bases(alloc, line, first, others.as_slice()),
         Request::Octopus(ids) => push_ids(alloc, line, "octopus", ids.as_slice()),
-        Request::Describe { names, max, id } => {
-            push_word(line, name_set(*names))?;
-            push_shown(alloc, line, max)?;
-            push_id(line, id)
-        }
+        Request::Describe { names, max, id } => push_describe(alloc, line, *names, *max, id),
         _ => Ok(()),
     }
+}
+
+fn push_walk(
+    alloc: Global,
+    line: &mut Vec<u8>,
+    order: Order,
+    ids: &[WalkId],
+) -> Result<(), ProbeError> {
+    push_order(alloc, line, order)?;
+    push_walk_ids(alloc, line, ids)
+}
+
+fn push_bases(
+    alloc: Global,
+    line: &mut Vec<u8>,
+    first: &ObjectId,
+    others: &[ObjectId],
+) -> Result<(), ProbeError> {
+    push_with_id(line, "bases", first)?;
+    push_ids(alloc, line, "others", others)
+}
+
+fn push_describe(
+    alloc: Global,
+    line: &mut Vec<u8>,
+    names: NameSet,
+    max: u64,
+    id: &ObjectId,
+) -> Result<(), ProbeError> {
+    push_word(line, name_set(names))?;
+    push_shown(alloc, line, &max)?;
+    push_id(line, id)
+}
+
+fn push_deletion(
+    alloc: Global,
+    line: &mut Vec<u8>,
+    name: &[u8],
+    expect: &Expect,
+) -> Result<(), ProbeError> {
+    push_named(alloc, line, "delete", name)?;
+    push_expect(alloc, line, expect)
+}
+
+fn push_note_drop(
+    alloc: Global,
+    line: &mut Vec<u8>,
+    reference: &[u8],
+    object: &ObjectId,
+) -> Result<(), ProbeError> {
+    push_named(alloc, line, "note-drop", reference)?;
+    push_id(line, object)
+}
+
+fn push_note_get(
+    alloc: Global,
+    line: &mut Vec<u8>,
+    object: &ObjectId,
+    patterns: &[Bytes],
+) -> Result<(), ProbeError> {
+    push_with_id(line, "note-get", object)?;
+    push_patterns(alloc, line, patterns)
 }
 
 fn push_commit(

@@ -90,37 +90,28 @@ fn fault(alloc: Global, error: ScriptError, is_ended: bool) -> Result<Vec<u8>, P
 }
 
 /// The answers to rows on scripts: `script (sha1 | sha256) TEXT [LIMIT]`.
-pub fn answer(
-    alloc: Global,
-    call: &[u8],
-    fields: &[Vec<u8>],
-) -> Result<Option<Vec<u8>>, ProbeError> {
+pub fn answer(alloc: Global, call: &str, fields: &[Vec<u8>]) -> Result<Vec<u8>, ProbeError> {
     match call {
-        b"script" => answer_script(alloc, fields),
-        _ => Ok(None),
+        "script" => answer_script(alloc, fields),
+        _ => Err(ProbeError::UnknownCall),
     }
 }
 
-fn answer_script(alloc: Global, fields: &[Vec<u8>]) -> Result<Option<Vec<u8>>, ProbeError> {
+fn answer_script(alloc: Global, fields: &[Vec<u8>]) -> Result<Vec<u8>, ProbeError> {
     match fields {
         [kind, text] => of_kind(alloc, kind, text, SCRIPT_LIMIT),
         [kind, text, limit] => match number_of(limit) {
             Some(limit) => of_kind(alloc, kind, text, limit),
-            None => Ok(None),
+            None => Err(ProbeError::UnknownCall),
         },
-        _ => Ok(None),
+        _ => Err(ProbeError::UnknownCall),
     }
 }
 
-fn of_kind(
-    alloc: Global,
-    kind: &[u8],
-    text: &[u8],
-    limit: u64,
-) -> Result<Option<Vec<u8>>, ProbeError> {
+fn of_kind(alloc: Global, kind: &[u8], text: &[u8], limit: u64) -> Result<Vec<u8>, ProbeError> {
     match hash_of(kind) {
-        Some(hash) => Ok(Some(in_pieces(alloc, hash, text, limit)?)),
-        None => Ok(None),
+        Some(hash) => in_pieces(alloc, hash, text, limit),
+        None => Err(ProbeError::UnknownCall),
     }
 }
 

@@ -14,36 +14,23 @@ use probe_rows::ProbeError;
 use probe_rows::answers::{push_field, push_id, truth, word};
 use std::alloc::Global;
 
-pub fn answer(
-    alloc: Global,
-    call: &[u8],
-    fields: &[Vec<u8>],
-) -> Result<Option<Vec<u8>>, ProbeError> {
+pub fn answer(alloc: Global, call: &str, fields: &[Vec<u8>]) -> Result<Vec<u8>, ProbeError> {
     match call {
-        b"path_names" => Ok(Some(names_of(alloc, only(fields)?)?)),
-        b"is_canonical" => Ok(Some(canonical(alloc, fields)?)),
-        b"trees" | b"blobs" | b"stands_for" => {
-            let Some((kind, words)) = fields.split_first() else {
-                return Err(ProbeError::BadLine);
-            };
-            Ok(Some(answer_of(alloc, call, hash_in(kind)?, words)?))
-        }
-        _ => Ok(None),
+        "path_names" => names_of(alloc, only(fields)?),
+        "is_canonical" => canonical(alloc, fields),
+        "trees" => trees(alloc, fields),
+        "blobs" => blobs(alloc, fields),
+        "stands_for" => stands_for(alloc, fields),
+        _ => Err(ProbeError::UnknownCall),
     }
 }
 
-/// The answer of a call that takes a kind of ids.
-fn answer_of(
-    alloc: Global,
-    call: &[u8],
-    hash: HashKind,
-    words: &[Vec<u8>],
-) -> Result<Vec<u8>, ProbeError> {
-    match call {
-        b"trees" => trees(alloc, hash, words),
-        b"blobs" => blobs(alloc, hash, words),
-        _ => stands_for(alloc, hash, words),
-    }
+/// The kind of ids of a call that takes one, and the fields after it.
+fn kind_and_words(fields: &[Vec<u8>]) -> Result<(HashKind, &[Vec<u8>]), ProbeError> {
+    let Some((kind, words)) = fields.split_first() else {
+        return Err(ProbeError::BadLine);
+    };
+    Ok((hash_in(kind)?, words))
 }
 
 /// The root of what edits of the empty tree leave, where that has a canonical directory.
@@ -106,7 +93,8 @@ fn path_in(alloc: Global, path: &[u8]) -> Result<Vec<Bytes>, ProbeError> {
 }
 
 /// The ids of the trees of what edits leave, the root last.
-fn trees(alloc: Global, hash: HashKind, words: &[Vec<u8>]) -> Result<Vec<u8>, ProbeError> {
+fn trees(alloc: Global, fields: &[Vec<u8>]) -> Result<Vec<u8>, ProbeError> {
+    let (hash, words) = kind_and_words(fields)?;
     let edits = edits_in(alloc, words)?;
     match directory_of(alloc, hash, &edits)? {
         Some(directory) => ids_of(alloc, hash, &directory.trees(alloc, hash)?),
@@ -115,7 +103,8 @@ fn trees(alloc: Global, hash: HashKind, words: &[Vec<u8>]) -> Result<Vec<u8>, Pr
 }
 
 /// The ids of the blobs that edits bring.
-fn blobs(alloc: Global, hash: HashKind, words: &[Vec<u8>]) -> Result<Vec<u8>, ProbeError> {
+fn blobs(alloc: Global, fields: &[Vec<u8>]) -> Result<Vec<u8>, ProbeError> {
+    let (hash, words) = kind_and_words(fields)?;
     let edits = edits_in(alloc, words)?;
     ids_of(alloc, hash, &blobs_of(alloc, &edits)?)
 }
@@ -130,7 +119,8 @@ fn ids_of(alloc: Global, hash: HashKind, objects: &[(Kind, Bytes)]) -> Result<Ve
 }
 
 /// Whether the directory of the paths before a semicolon is the canonical one of the edits after it.
-fn stands_for(alloc: Global, hash: HashKind, words: &[Vec<u8>]) -> Result<Vec<u8>, ProbeError> {
+fn stands_for(alloc: Global, fields: &[Vec<u8>]) -> Result<Vec<u8>, ProbeError> {
+    let (hash, words) = kind_and_words(fields)?;
     let mut parts = words.split(|field| field.as_slice() == b";".as_slice());
     let (Some(paths), Some(edits)) = (parts.next(), parts.next()) else {
         return Err(ProbeError::BadLine);

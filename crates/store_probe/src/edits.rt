@@ -2,7 +2,7 @@
 //! and `remove PATH`, with a comma between two edits.
 
 use crate::store::only;
-use crate::values::id_in;
+use crate::values::{id_in, word_in};
 use gx_edit::{EditError, PathEdit, PathMap};
 use gx_hash::{Bytes, HashKind, ObjectId, object_id};
 use gx_object::{EntryKind, Kind};
@@ -25,27 +25,24 @@ fn edit_in(alloc: Global, words: &[Vec<u8>]) -> Result<PathEdit, ProbeError> {
     let [edit, path, content @ ..] = words else {
         return Err(ProbeError::BadLine);
     };
-    let path = Bytes::from_slice(alloc, path)?;
-    match edit.as_slice() {
-        b"file" => file_in(alloc, path, only(content)?, false),
-        b"exec" => file_in(alloc, path, only(content)?, true),
-        b"link" => link_in(alloc, path, only(content)?),
-        b"module" => {
-            let id = id_in(only(content)?)?;
-            Ok(PathEdit::Module { path, id })
-        }
-        b"remove" if content.is_empty() => Ok(PathEdit::Remove { path }),
+    match word_in(edit)? {
+        "file" => file_in(alloc, path, content, false),
+        "exec" => file_in(alloc, path, content, true),
+        "link" => link_in(alloc, path, content),
+        "module" => module_in(alloc, path, content),
+        "remove" if content.is_empty() => removal_of(alloc, path),
         _ => Err(ProbeError::BadLine),
     }
 }
 
 fn file_in(
     alloc: Global,
-    path: Bytes,
-    bytes: &[u8],
+    path: &[u8],
+    content: &[Vec<u8>],
     executable: bool,
 ) -> Result<PathEdit, ProbeError> {
-    let bytes = Bytes::from_slice(alloc, bytes)?;
+    let path = Bytes::from_slice(alloc, path)?;
+    let bytes = Bytes::from_slice(alloc, only(content)?)?;
     Ok(PathEdit::File {
         path,
         bytes,
@@ -53,9 +50,21 @@ fn file_in(
     })
 }
 
-fn link_in(alloc: Global, path: Bytes, bytes: &[u8]) -> Result<PathEdit, ProbeError> {
-    let bytes = Bytes::from_slice(alloc, bytes)?;
+fn link_in(alloc: Global, path: &[u8], content: &[Vec<u8>]) -> Result<PathEdit, ProbeError> {
+    let path = Bytes::from_slice(alloc, path)?;
+    let bytes = Bytes::from_slice(alloc, only(content)?)?;
     Ok(PathEdit::Link { path, bytes })
+}
+
+fn module_in(alloc: Global, path: &[u8], content: &[Vec<u8>]) -> Result<PathEdit, ProbeError> {
+    let id = id_in(only(content)?)?;
+    let path = Bytes::from_slice(alloc, path)?;
+    Ok(PathEdit::Module { path, id })
+}
+
+fn removal_of(alloc: Global, path: &[u8]) -> Result<PathEdit, ProbeError> {
+    let path = Bytes::from_slice(alloc, path)?;
+    Ok(PathEdit::Remove { path })
 }
 
 /// Makes the edits of the map in turn, up to one that is refused.

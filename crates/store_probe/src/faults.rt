@@ -2,7 +2,7 @@
 
 use gx_edit::EditError;
 use gx_hash::ObjectId;
-use gx_object::{EntryKind, Field};
+use gx_object::{EntryKind, Field, Kind};
 use gx_refs::RefError;
 use gx_rules::ComponentError;
 use gx_store::{StoreError, What};
@@ -20,20 +20,28 @@ pub fn store_error(alloc: Global, error: &StoreError) -> Result<Vec<u8>, ProbeEr
 /// The part of a store that failed.
 fn failed(alloc: Global, variant: &str, what: &What) -> Result<Vec<u8>, ProbeError> {
     let mut answer = word(alloc, variant)?;
-    match what {
-        What::Object(id) => {
-            push_word(&mut answer, "object")?;
-            push_id(&mut answer, id)?;
-        }
-        What::Name(name) => {
-            push_word(&mut answer, "name")?;
-            push_field(&mut answer, name.as_slice())?;
-        }
-        What::Index => push_word(&mut answer, "index")?,
-        What::Listing => push_word(&mut answer, "listing")?,
-        What::Write => push_word(&mut answer, "write")?,
-    }
+    push_what(&mut answer, what)?;
     Ok(answer)
+}
+
+fn push_what(answer: &mut Vec<u8>, what: &What) -> Result<(), ProbeError> {
+    match what {
+        What::Object(id) => push_with_id(answer, "object", id),
+        What::Name(name) => push_named(answer, "name", name.as_slice()),
+        What::Index => push_word(answer, "index"),
+        What::Listing => push_word(answer, "listing"),
+        What::Write => push_word(answer, "write"),
+    }
+}
+
+fn push_with_id(answer: &mut Vec<u8>, text: &str, id: &ObjectId) -> Result<(), ProbeError> {
+    push_word(answer, text)?;
+    push_id(answer, id)
+}
+
+fn push_named(answer: &mut Vec<u8>, text: &str, name: &[u8]) -> Result<(), ProbeError> {
+    push_word(answer, text)?;
+    push_field(answer, name)
 }
 
 pub fn reference_error(alloc: Global, error: &RefError) -> Result<Vec<u8>, ProbeError> {
@@ -48,8 +56,8 @@ pub fn reference_error(alloc: Global, error: &RefError) -> Result<Vec<u8>, Probe
 }
 
 fn named(alloc: Global, variant: &str, name: &[u8]) -> Result<Vec<u8>, ProbeError> {
-    let mut answer = word(alloc, variant)?;
-    push_field(&mut answer, name)?;
+    let mut answer = Vec::new(alloc);
+    push_named(&mut answer, variant, name)?;
     Ok(answer)
 }
 
@@ -57,52 +65,63 @@ pub fn edit_error(alloc: Global, error: &EditError) -> Result<Vec<u8>, ProbeErro
     match error {
         EditError::EmptyPathComponent => word(alloc, "empty-path-component"),
         EditError::FindExistingObject { id } => with_id(alloc, "find-existing-object", id),
-        EditError::ObjectKind { id, actual } => {
-            let mut answer = with_id(alloc, "object-kind", id)?;
-            push_field(&mut answer, actual.as_bytes())?;
-            Ok(answer)
-        }
+        EditError::ObjectKind { id, actual } => object_kind(alloc, id, *actual),
         EditError::Decode { id } => with_id(alloc, "decode", id),
+        EditError::IsTree => word(alloc, "is-tree"),
         EditError::InvalidFilename {
             filename,
             kind,
             id,
             source,
-        } => {
-            let mut answer = entry(alloc, "invalid-filename", filename.as_slice(), *kind, id)?;
-            push_word(&mut answer, component_error(*source))?;
-            Ok(answer)
-        }
+        } => invalid_filename(alloc, filename.as_slice(), *kind, id, *source),
         EditError::MissingObject { filename, kind, id } => {
-            entry(alloc, "missing-object", filename.as_slice(), *kind, id)
+            missing_object(alloc, filename.as_slice(), *kind, id)
         }
-        EditError::WriteObject { field } => {
-            let mut answer = word(alloc, "write-object")?;
-            push_word(&mut answer, field_name(*field))?;
-            Ok(answer)
-        }
+        EditError::WriteObject { field } => unwritable(alloc, *field),
         EditError::Store { what } => failed(alloc, "store", what),
         EditError::NoMemory => Err(ProbeError::NoMemory),
     }
 }
 
 fn with_id(alloc: Global, variant: &str, id: &ObjectId) -> Result<Vec<u8>, ProbeError> {
-    let mut answer = word(alloc, variant)?;
-    push_id(&mut answer, id)?;
+    let mut answer = Vec::new(alloc);
+    push_with_id(&mut answer, variant, id)?;
     Ok(answer)
 }
 
-/// The entry of a tree that is refused.
-fn entry(
+fn object_kind(alloc: Global, id: &ObjectId, actual: Kind) -> Result<Vec<u8>, ProbeError> {
+    let mut answer = with_id(alloc, "object-kind", id)?;
+    push_field(&mut answer, actual.as_bytes())?;
+    Ok(answer)
+}
+
+fn unwritable(alloc: Global, field: Field) -> Result<Vec<u8>, ProbeError> {
+    let mut answer = word(alloc, "write-object")?;
+    push_word(&mut answer, field_name(field))?;
+    Ok(answer)
+}
+
+fn missing_object(
     alloc: Global,
-    variant: &str,
     filename: &[u8],
     kind: EntryKind,
     id: &ObjectId,
 ) -> Result<Vec<u8>, ProbeError> {
-    let mut answer = named(alloc, variant, filename)?;
-    push_word(&mut answer, kind.as_octal_str())?;
-    push_id(&mut answer, id)?;
+    let mut answer = named(alloc, "missing-object", filename)?;
+    push_with_id(&mut answer, kind.as_octal_str(), id)?;
+    Ok(answer)
+}
+
+fn invalid_filename(
+    alloc: Global,
+    filename: &[u8],
+    kind: EntryKind,
+    id: &ObjectId,
+    source: ComponentError,
+) -> Result<Vec<u8>, ProbeError> {
+    let mut answer = named(alloc, "invalid-filename", filename)?;
+    push_with_id(&mut answer, kind.as_octal_str(), id)?;
+    push_word(&mut answer, component_error(source))?;
     Ok(answer)
 }
 

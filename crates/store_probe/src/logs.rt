@@ -12,21 +12,9 @@ use probe_rows::ProbeError;
 use probe_rows::answers::{quoted, signed_of, truth};
 use std::alloc::Global;
 
-pub fn answer(
-    alloc: Global,
-    call: &[u8],
-    fields: &[Vec<u8>],
-) -> Result<Option<Vec<u8>>, ProbeError> {
-    match call {
-        b"is_due" => Ok(Some(due_of(alloc, fields)?)),
-        b"log_line" => Ok(Some(line_of(alloc, fields)?)),
-        _ => Ok(None),
-    }
-}
-
 /// Whether a line is due for a name, of which the words say whether it is forced, whether there is a log, and whether
 /// that can't be read.
-fn due_of(alloc: Global, fields: &[Vec<u8>]) -> Result<Vec<u8>, ProbeError> {
+pub fn due_of(alloc: Global, fields: &[Vec<u8>]) -> Result<Vec<u8>, ProbeError> {
     let [mode, name, words @ ..] = fields else {
         return Err(ProbeError::BadLine);
     };
@@ -66,7 +54,8 @@ pub fn due(
     }
 }
 
-fn line_of(alloc: Global, fields: &[Vec<u8>]) -> Result<Vec<u8>, ProbeError> {
+/// The line that these make, as it stands in a file of Git's.
+pub fn line_of(alloc: Global, fields: &[Vec<u8>]) -> Result<Vec<u8>, ProbeError> {
     let [previous, new, name, email, seconds, offset, message] = fields else {
         return Err(ProbeError::BadLine);
     };

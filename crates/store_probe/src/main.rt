@@ -1,8 +1,9 @@
-//! What the libraries say of stores, references, path maps and runs, row by row. It reads rows from standard input, and
-//! prints them again with what the libraries answer.
+//! What the libraries say of stores, references, path maps, editors and runs, row by row. It reads rows from standard
+//! input, and prints them again with what the libraries answer.
 #![tactic(auto)]
 
 mod directories;
+mod editors;
 mod edits;
 mod faults;
 mod logs;
@@ -12,73 +13,37 @@ mod runs;
 mod store;
 mod values;
 
-use probe_rows::{ProbeError, Rows};
+use probe_rows::{Answer, ProbeError, answer_rows};
 use std::alloc::Global;
-use std::io::{self, Read, Write};
+use std::io;
 use std::process::ExitCode;
 
 /// Reading or writing failed, or memory ran out.
 const FAILED: u8 = 3;
 
 fn main(rt: HostRuntime) -> ExitCode {
-    ExitCode::from(match read_input(&rt) {
-        Ok(input) => printed(&rt, &input),
-        Err(_) => FAILED,
-    })
+    ExitCode::from(
+        match answer_rows(rt.alloc(), &Libraries, rt.reader(), io::writer(&rt)) {
+            Ok(()) => 0,
+            Err(_) => FAILED,
+        },
+    )
 }
 
-fn read_input(rt: &HostRuntime) -> io::Result<Vec<u8>> {
-    let mut input = Vec::new(rt.alloc());
-    rt.reader().read_to_end(&mut input)?;
-    Ok(input)
-}
+/// The libraries whose calls rows make here.
+struct Libraries;
 
-fn printed(rt: &HostRuntime, input: &[u8]) -> u8 {
-    match answered(rt.alloc(), input) {
-        Ok(output) => written(rt, &output),
-        Err(_) => FAILED,
-    }
-}
-
-fn written(rt: &HostRuntime, output: &[u8]) -> u8 {
-    match io::writer(rt).write_all(output) {
-        Ok(()) => 0,
-        Err(_) => FAILED,
-    }
-}
-
-/// The rows with what the libraries answer in place of what is expected.
-fn answered(alloc: Global, input: &[u8]) -> Result<Vec<u8>, ProbeError> {
-    let mut rows = Rows::new(alloc);
-    for line in input
-        .strip_suffix(b"\n")
-        .unwrap_or(input)
-        .split(|byte| *byte == b'\n')
-    {
-        if rows.read(line)? {
-            let found = answer(alloc, rows.fields());
-            rows.answer(found)?;
+impl Answer for Libraries {
+    fn answer(&self, alloc: Global, call: &str, fields: &[Vec<u8>]) -> Result<Vec<u8>, ProbeError> {
+        match call {
+            "store" => store::answer(alloc, fields),
+            "run" => runs::answer(alloc, fields),
+            "is_due" => logs::due_of(alloc, fields),
+            "log_line" => logs::line_of(alloc, fields),
+            "edits" => path_maps::answer_edits(alloc, fields),
+            "path_map" => path_maps::answer_steps(alloc, fields),
+            "editor" => editors::answer(alloc, fields),
+            _ => directories::answer(alloc, call, fields),
         }
     }
-    rows.into_output()
-}
-
-/// The answer of the first subject that knows the call, where one does.
-fn answer(alloc: Global, row: &[Vec<u8>]) -> Result<Option<Vec<u8>>, ProbeError> {
-    let [call, fields @ ..] = row else {
-        return Ok(None);
-    };
-    if let Some(found) = store::answer(alloc, call, fields)? {
-        return Ok(Some(found));
-    }
-    if let Some(found) = logs::answer(alloc, call, fields)? {
-        return Ok(Some(found));
-    }
-    if let Some(found) = path_maps::answer(alloc, call, fields)? {
-        return Ok(Some(found));
-    }
-    if let Some(found) = directories::answer(alloc, call, fields)? {
-        return Ok(Some(found));
-    }
-    runs::answer(alloc, call, fields)
 }

@@ -9,7 +9,7 @@ use crate::directories;
 use crate::edits::{edits_in, make_edits};
 use crate::faults::edit_error;
 use crate::store::{answer_step, only, push_answer, written};
-use crate::values::{hash_in, id_in};
+use crate::values::{hash_in, id_in, word_in};
 use gx_edit::{EditError, Output, PathEdit, PathMap, read_map, write_plain};
 use gx_hash::{HashKind, ObjectId, ObjectIds};
 use gx_object::Kind;
@@ -19,19 +19,8 @@ use probe_rows::ProbeError;
 use probe_rows::answers::{hex, push_field, push_id, push_word, shown, word};
 use std::alloc::Global;
 
-pub fn answer(
-    alloc: Global,
-    call: &[u8],
-    fields: &[Vec<u8>],
-) -> Result<Option<Vec<u8>>, ProbeError> {
-    match call {
-        b"edits" => Ok(Some(answer_edits(alloc, fields)?)),
-        b"path_map" => Ok(Some(answer_steps(alloc, fields)?)),
-        _ => Ok(None),
-    }
-}
-
-fn answer_edits(alloc: Global, fields: &[Vec<u8>]) -> Result<Vec<u8>, ProbeError> {
+/// The answer of `edits`.
+pub fn answer_edits(alloc: Global, fields: &[Vec<u8>]) -> Result<Vec<u8>, ProbeError> {
     let Some((kind, words)) = fields.split_first() else {
         return Err(ProbeError::BadLine);
     };
@@ -80,7 +69,8 @@ fn push_leaves(answer: &mut Vec<u8>, map: &PathMap) -> Result<(), ProbeError> {
     Ok(())
 }
 
-fn answer_steps(alloc: Global, fields: &[Vec<u8>]) -> Result<Vec<u8>, ProbeError> {
+/// The answer of `path_map`.
+pub fn answer_steps(alloc: Global, fields: &[Vec<u8>]) -> Result<Vec<u8>, ProbeError> {
     let Some((kind, words)) = fields.split_first() else {
         return Err(ProbeError::BadLine);
     };
@@ -105,16 +95,16 @@ fn answer_map_step(
     let Some((call, fields)) = step.split_first() else {
         return Err(ProbeError::BadLine);
     };
-    match call.as_slice() {
-        b"edit" => edit(alloc, store.hash_kind(), map, fields),
-        b"list" => list(alloc, map),
-        b"len" => shown(alloc, &map.len()),
-        b"get" => get(alloc, map, only(fields)?),
-        b"read_map" => read(alloc, store, map, id_in(only(fields)?)?),
-        b"tree" => tree(alloc, store, fields),
-        b"given" => give(alloc, given, fields),
-        b"write_plain" => write(alloc, store, map, fields),
-        b"check_plain" => check(alloc, store, map, given, fields),
+    match word_in(call)? {
+        "edit" => edit(alloc, store.hash_kind(), map, fields),
+        "list" => list(alloc, map),
+        "len" => shown(alloc, &map.len()),
+        "get" => get(alloc, map, only(fields)?),
+        "read_map" => read(alloc, store, map, fields),
+        "tree" => tree(alloc, store, fields),
+        "given" => give(alloc, given, fields),
+        "write_plain" => write(alloc, store, map, fields),
+        "check_plain" => check(alloc, store, map, given, fields),
         _ => answer_step(alloc, store, step),
     }
 }
@@ -156,9 +146,9 @@ fn read(
     alloc: Global,
     store: &Memory,
     map: &mut PathMap,
-    root: ObjectId,
+    fields: &[Vec<u8>],
 ) -> Result<Vec<u8>, ProbeError> {
-    match read_map(alloc, store, root) {
+    match read_map(alloc, store, id_in(only(fields)?)?) {
         Ok(found) => {
             *map = found;
             word(alloc, "ok")
@@ -168,7 +158,7 @@ fn read(
 }
 
 /// Stores a tree that has the entries in this order, each with its mode as it stands. Answers its id.
-fn tree(alloc: Global, store: &mut Memory, words: &[Vec<u8>]) -> Result<Vec<u8>, ProbeError> {
+pub fn tree(alloc: Global, store: &mut Memory, words: &[Vec<u8>]) -> Result<Vec<u8>, ProbeError> {
     let mut bytes = Vec::new(alloc);
     for entry in words.split(|field| field.as_slice() == b",".as_slice()) {
         push_entry(&mut bytes, entry)?;
@@ -196,23 +186,28 @@ fn give(alloc: Global, given: &mut ObjectIds, ids: &[Vec<u8>]) -> Result<Vec<u8>
 }
 
 /// The protections that the words name.
-fn protect_in(words: &[Vec<u8>]) -> Result<Protect, ProbeError> {
+pub fn protect_in(words: &[Vec<u8>]) -> Result<Protect, ProbeError> {
     let mut protect = Protect {
         hfs: false,
         ntfs: false,
         windows: false,
     };
     for word in words {
-        match word.as_slice() {
-            b"default" => protect = Protect::default(),
-            b"none" => {}
-            b"hfs" => protect.hfs = true,
-            b"ntfs" => protect.ntfs = true,
-            b"windows" => protect.windows = true,
-            _ => return Err(ProbeError::BadLine),
-        }
+        add_protection(&mut protect, word_in(word)?)?;
     }
     Ok(protect)
+}
+
+fn add_protection(protect: &mut Protect, word: &str) -> Result<(), ProbeError> {
+    match word {
+        "default" => *protect = Protect::default(),
+        "none" => {}
+        "hfs" => protect.hfs = true,
+        "ntfs" => protect.ntfs = true,
+        "windows" => protect.windows = true,
+        _ => return Err(ProbeError::BadLine),
+    }
+    Ok(())
 }
 
 /// Writes the map. Without words no protections are given.

@@ -21,57 +21,37 @@ use std::alloc::Global;
 pub fn read_by(
     alloc: Global,
     store: &Memory,
-    call: &[u8],
+    call: &str,
     fields: &[Vec<u8>],
-) -> Result<Option<Vec<u8>>, ProbeError> {
-    match call {
-        b"list" => Ok(Some(list(alloc, store, only(fields)?)?)),
-        b"find"
-        | b"find_conflict"
-        | b"log"
-        | b"last_line"
-        | b"log_exists"
-        | b"chain"
-        | b"resolve" => {
-            let name = name_in(alloc, only(fields)?)?;
-            Ok(Some(read_at(alloc, store, call, &name)?))
-        }
-        b"is_due" => Ok(Some(due_here(alloc, store, fields)?)),
-        _ => Ok(None),
-    }
-}
-
-/// The answer of a call that takes a name.
-fn read_at(
-    alloc: Global,
-    store: &Memory,
-    call: &[u8],
-    name: &FullName,
 ) -> Result<Vec<u8>, ProbeError> {
     match call {
-        b"find" => find(alloc, store, name),
-        b"find_conflict" => conflict(alloc, store, name),
-        b"log" => log(alloc, store, name),
-        b"last_line" => last_line(alloc, store, name),
-        b"log_exists" => log_exists(alloc, store, name),
-        b"chain" => chain_from(alloc, store, name),
-        _ => resolved(alloc, store, name),
+        "list" => list(alloc, store, only(fields)?),
+        "find" => find(alloc, store, &only_name(alloc, fields)?),
+        "find_conflict" => conflict(alloc, store, &only_name(alloc, fields)?),
+        "chain" => chain_from(alloc, store, &only_name(alloc, fields)?),
+        "resolve" => resolved(alloc, store, &only_name(alloc, fields)?),
+        _ => read_log_by(alloc, store, call, fields),
     }
 }
 
-/// The answer of a call that changes references: `ok` where the changes are made.
-pub fn change_by(
+/// The answer of a call that reads logs.
+fn read_log_by(
     alloc: Global,
-    store: &mut Memory,
-    call: &[u8],
+    store: &Memory,
+    call: &str,
     fields: &[Vec<u8>],
-) -> Result<Option<Vec<u8>>, ProbeError> {
+) -> Result<Vec<u8>, ProbeError> {
     match call {
-        b"lead" => Ok(Some(lead(alloc, store, fields)?)),
-        b"apply" => Ok(Some(apply(alloc, store, fields)?)),
-        b"move" => Ok(Some(move_by(alloc, store, fields)?)),
-        _ => Ok(None),
+        "log" => log(alloc, store, &only_name(alloc, fields)?),
+        "last_line" => last_line(alloc, store, &only_name(alloc, fields)?),
+        "log_exists" => log_exists(alloc, store, &only_name(alloc, fields)?),
+        "is_due" => due_here(alloc, store, fields),
+        _ => Err(ProbeError::UnknownCall),
     }
+}
+
+fn only_name(alloc: Global, fields: &[Vec<u8>]) -> Result<FullName, ProbeError> {
+    name_in(alloc, only(fields)?)
 }
 
 fn list(alloc: Global, store: &Memory, prefix: &[u8]) -> Result<Vec<u8>, ProbeError> {
@@ -248,7 +228,7 @@ fn log_in(alloc: Global, hash: HashKind, field: &[u8]) -> Result<LogAct, ProbeEr
 }
 
 /// Makes the change of a name, or the changes of two names in one call.
-fn apply(alloc: Global, store: &mut Memory, fields: &[Vec<u8>]) -> Result<Vec<u8>, ProbeError> {
+pub fn apply(alloc: Global, store: &mut Memory, fields: &[Vec<u8>]) -> Result<Vec<u8>, ProbeError> {
     match fields {
         [name, target, log] => apply_one(alloc, store, name, target, log),
         [name, target, log, other, other_target, other_log] => apply_two(
@@ -297,7 +277,7 @@ fn outcome(alloc: Global, made: Result<(), StoreError>) -> Result<Vec<u8>, Probe
 }
 
 /// Lets each of the names lead to the next, up to a change that fails.
-fn lead(alloc: Global, store: &mut Memory, names: &[Vec<u8>]) -> Result<Vec<u8>, ProbeError> {
+pub fn lead(alloc: Global, store: &mut Memory, names: &[Vec<u8>]) -> Result<Vec<u8>, ProbeError> {
     for pair in names.windows(2) {
         if let [from, to] = pair {
             let answer = apply_one(alloc, store, from, to, b"keep")?;
@@ -309,7 +289,12 @@ fn lead(alloc: Global, store: &mut Memory, names: &[Vec<u8>]) -> Result<Vec<u8>,
     word(alloc, "ok")
 }
 
-fn move_by(alloc: Global, store: &mut Memory, fields: &[Vec<u8>]) -> Result<Vec<u8>, ProbeError> {
+/// Moves the end of a name's chain.
+pub fn move_by(
+    alloc: Global,
+    store: &mut Memory,
+    fields: &[Vec<u8>],
+) -> Result<Vec<u8>, ProbeError> {
     let [mode, name, id, message] = fields else {
         return Err(ProbeError::BadLine);
     };

@@ -35,19 +35,8 @@ struct Script<'a> {
     failing_write: u64,
 }
 
-/// The answers to rows on runs.
-pub fn answer(
-    alloc: Global,
-    call: &[u8],
-    fields: &[Vec<u8>],
-) -> Result<Option<Vec<u8>>, ProbeError> {
-    match call {
-        b"run" => Ok(Some(answer_steps(alloc, fields)?)),
-        _ => Ok(None),
-    }
-}
-
-fn answer_steps(alloc: Global, fields: &[Vec<u8>]) -> Result<Vec<u8>, ProbeError> {
+/// The answer of `run`.
+pub fn answer(alloc: Global, fields: &[Vec<u8>]) -> Result<Vec<u8>, ProbeError> {
     let Some((kind, words)) = fields.split_first() else {
         return Err(ProbeError::BadLine);
     };
@@ -100,11 +89,11 @@ fn script_in(step: &[Vec<u8>]) -> Option<Script<'_>> {
         failing_read: 0,
         failing_write: 0,
     };
-    match call.as_slice() {
-        b"script" => Some(whole),
-        b"within" => within(whole, words),
-        b"reading" => reading(whole, words),
-        b"writing" => writing(whole, words),
+    match str::from_utf8(call).ok()? {
+        "script" => Some(whole),
+        "within" => within(whole, words),
+        "reading" => reading(whole, words),
+        "writing" => writing(whole, words),
         _ => None,
     }
 }

@@ -3,7 +3,7 @@
 
 use crate::faults::store_error;
 use crate::references;
-use crate::values::{hash_in, id_in, kind_in, name_in, number_in};
+use crate::values::{hash_in, id_in, kind_in, name_in, number_in, word_in};
 use gx_hash::ObjectId;
 use gx_object::Kind;
 use gx_store::{Memory, Objects, write_object};
@@ -11,18 +11,8 @@ use probe_rows::ProbeError;
 use probe_rows::answers::{hex, push_field, push_shown, shown, truth, word};
 use std::alloc::Global;
 
-pub fn answer(
-    alloc: Global,
-    call: &[u8],
-    fields: &[Vec<u8>],
-) -> Result<Option<Vec<u8>>, ProbeError> {
-    match call {
-        b"store" => Ok(Some(answer_steps(alloc, fields)?)),
-        _ => Ok(None),
-    }
-}
-
-fn answer_steps(alloc: Global, fields: &[Vec<u8>]) -> Result<Vec<u8>, ProbeError> {
+/// The answer of `store`.
+pub fn answer(alloc: Global, fields: &[Vec<u8>]) -> Result<Vec<u8>, ProbeError> {
     let Some((kind, words)) = fields.split_first() else {
         return Err(ProbeError::BadLine);
     };
@@ -52,43 +42,45 @@ pub fn answer_step(
     let Some((call, fields)) = step.split_first() else {
         return Err(ProbeError::BadLine);
     };
-    if let Some(found) = read_by(alloc, store, call, fields)? {
-        return Ok(found);
+    let call = word_in(call)?;
+    match read_by(alloc, store, call, fields) {
+        Err(ProbeError::UnknownCall) => {}
+        found => return found,
     }
-    if let Some(found) = references::read_by(alloc, store, call, fields)? {
-        return Ok(found);
+    match references::read_by(alloc, store, call, fields) {
+        Err(ProbeError::UnknownCall) => change_by(alloc, store, call, fields),
+        found => found,
     }
-    if let Some(done) = references::change_by(alloc, store, call, fields)? {
-        return Ok(done);
-    }
-    change_by(alloc, store, call, fields)
 }
 
 /// The answer of a call that reads objects, or counts faults.
 fn read_by(
     alloc: Global,
     store: &Memory,
-    call: &[u8],
-    fields: &[Vec<u8>],
-) -> Result<Option<Vec<u8>>, ProbeError> {
-    match call {
-        b"read" => Ok(Some(read(alloc, store, &only_id(fields)?)?)),
-        b"header" => Ok(Some(header(alloc, store, &only_id(fields)?)?)),
-        b"exists" => Ok(Some(exists(alloc, store, &only_id(fields)?)?)),
-        b"faults" => Ok(Some(shown(alloc, &store.fault_count())?)),
-        _ => Ok(None),
-    }
-}
-
-/// The answer of a call that changes objects, or lets later calls fail.
-fn change_by(
-    alloc: Global,
-    store: &mut Memory,
-    call: &[u8],
+    call: &str,
     fields: &[Vec<u8>],
 ) -> Result<Vec<u8>, ProbeError> {
     match call {
-        b"write" => write(alloc, store, fields),
+        "read" => read(alloc, store, &only_id(fields)?),
+        "header" => header(alloc, store, &only_id(fields)?),
+        "exists" => exists(alloc, store, &only_id(fields)?),
+        "faults" => shown(alloc, &store.fault_count()),
+        _ => Err(ProbeError::UnknownCall),
+    }
+}
+
+/// The answer of a call that changes references or objects, or lets later calls fail.
+fn change_by(
+    alloc: Global,
+    store: &mut Memory,
+    call: &str,
+    fields: &[Vec<u8>],
+) -> Result<Vec<u8>, ProbeError> {
+    match call {
+        "lead" => references::lead(alloc, store, fields),
+        "apply" => references::apply(alloc, store, fields),
+        "move" => references::move_by(alloc, store, fields),
+        "write" => write(alloc, store, fields),
         _ => {
             prepare(alloc, store, call, fields)?;
             word(alloc, "ok")
@@ -100,18 +92,18 @@ fn change_by(
 fn prepare(
     alloc: Global,
     store: &mut Memory,
-    call: &[u8],
+    call: &str,
     fields: &[Vec<u8>],
 ) -> Result<(), ProbeError> {
     match call {
-        b"put" => put(store, fields),
-        b"break_object" => Ok(store.break_object(only_id(fields)?)?),
-        b"break_name" => Ok(store.break_name(name_in(alloc, only(fields)?)?)?),
-        b"break_listing" => {
+        "put" => put(store, fields),
+        "break_object" => Ok(store.break_object(only_id(fields)?)?),
+        "break_name" => Ok(store.break_name(name_in(alloc, only(fields)?)?)?),
+        "break_listing" => {
             store.break_listing();
             Ok(())
         }
-        b"fail_write" => Ok(store.fail_write(number_in(only(fields)?)?)?),
+        "fail_write" => Ok(store.fail_write(number_in(only(fields)?)?)?),
         _ => Err(ProbeError::BadLine),
     }
 }

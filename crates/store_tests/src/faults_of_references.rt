@@ -1,5 +1,5 @@
-use crate::samples::person;
-use gx_hash::{Bytes, HashKind, NoMemory, ObjectId};
+use crate::samples::{name_of, person};
+use gx_hash::{HashKind, NoMemory, ObjectId};
 use gx_refs::{RefError, WriteReflog, chain, move_end, resolve};
 use gx_rules::FullName;
 use gx_store::{
@@ -11,7 +11,7 @@ use std::alloc::Global;
 fn tag(alloc: Global, digit: u8) -> Result<FullName, NoMemory> {
     let mut name = Vec::from_slice(alloc, b"refs/tags/")?;
     name.push(digit)?;
-    Ok(FullName::new_unchecked(Bytes::from_vec(name)))
+    name_of(alloc, &name)
 }
 
 fn lead(alloc: Global, store: &mut Memory, from: u8, to: u8) -> Result<(), StoreError> {

@@ -7,7 +7,10 @@ use gx_store::{Calls, LogLine};
 use std::alloc::Global;
 
 pub(crate) fn name_of(alloc: Global, bytes: &[u8]) -> Result<FullName, NoMemory> {
-    Ok(FullName::new_unchecked(Bytes::from_slice(alloc, bytes)?))
+    match FullName::new(alloc, bytes) {
+        Ok(name) => Ok(name),
+        Err(_) => Err(NoMemory),
+    }
 }
 
 pub(crate) fn person(alloc: Global) -> Result<Signature, NoMemory> {

@@ -112,6 +112,10 @@ fn errors_of_editing(alloc: Global) -> Result<bool, NoMemory> {
             "a path must not have an empty component",
         )? && says(
             alloc,
+            &EditError::IsTree,
+            "a directory is not removed as a leaf",
+        )? && says(
+            alloc,
             &EditError::WriteObject { field },
             "the field FileName cannot be written",
         )? && says(alloc, &store, "the store failed at Write")?

@@ -33,7 +33,7 @@ fn read_on(reader: &mut ScriptReader, input: &mut MemorySource) -> Outcome {
     }
 }
 
-/// Reads both commits, in pieces of at most so many bytes, from a source of which a call fails.
+/// Reads both commits, in pieces of at most this many bytes, from a source of which a call fails.
 fn read(alloc: Global, most: usize, failing: u64) -> Result<Outcome, NoMemory> {
     let mut input = source(alloc, &both(alloc)?, most, failing)?;
     let mut reader = ScriptReader::new(alloc, HashKind::Sha1, 1000)?;
@@ -58,7 +58,7 @@ fn a_script_may_come_in_pieces_of_any_size(rt: HostRuntime) {
     assert!(rt; is_read_in_all_pieces(rt.alloc()).unwrap_or(false));
 }
 
-/// What is read where so many bytes were taken before the call that fails.
+/// What is read where this many bytes were taken before the call that fails.
 fn cut_after(taken: u64) -> Outcome {
     let requests = if taken < FIRST.len() as u64 {
         0
@@ -73,7 +73,7 @@ fn cut_after(taken: u64) -> Outcome {
     }
 }
 
-/// Whether each of so many calls may fail, and no more calls are made.
+/// Whether each of this many calls may fail, and no more calls are made.
 fn fails_at_each(alloc: Global, most: usize, calls: u64) -> Result<bool, NoMemory> {
     for call in 1..=calls {
         let taken = call.saturating_sub(1).saturating_mul(most as u64);

@@ -35,7 +35,7 @@ pub fn call(alloc: Global, nth: u64) -> Result<Calls, NoMemory> {
     Ok(Calls::from_vec(calls))
 }
 
-/// A source of the bytes that gives at most so many at once, and of which a call fails.
+/// A source of the bytes that gives at most this many at once, and of which a call fails.
 pub fn source(
     alloc: Global,
     bytes: &[u8],

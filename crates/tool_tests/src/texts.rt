@@ -61,7 +61,10 @@ fn errors_of_runs_are_told(rt: HostRuntime) {
 }
 
 fn name(alloc: Global) -> Result<FullName, NoMemory> {
-    Ok(FullName::new_unchecked(Bytes::from_slice(alloc, b"HEAD")?))
+    match FullName::new(alloc, b"HEAD") {
+        Ok(name) => Ok(name),
+        Err(_) => Err(NoMemory),
+    }
 }
 
 fn is_shown(alloc: Global, error: CommitEditsError, text: &str) -> Result<bool, NoMemory> {

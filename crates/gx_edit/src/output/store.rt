@@ -1,5 +1,5 @@
 // Trees stored, and what their entries name looked for.
-ghost use Rattle.std.specs.Prelude.{◌≡◌, ◌<◌, ◌↔◌, ◌⊎◌, ℕ, length, take, IsTrue, IsSome, IfOk, IfErr, IfSome, OnOk, OnErr};
+ghost use Rattle.std.specs.Prelude.{◌<◌, ◌↔◌, ℕ, length, take, IsTrue, IsSome, IfOk, IfErr, IfSome, OnOk, OnErr};
 ghost use Rattle.std.specs.List.{AllByRecursion};
 ghost use Rattle.gx_store.specs.Content.{IsStored};
 ghost use Rattle.gx_store.specs.State.{Becomes, HasCause, IfFault, IsUnreadable, all_stored};
@@ -24,9 +24,11 @@ pub(super) fn store_trees<S: Objects>(
 ) -> Result<(), StoreError>
     requires { ArePlanned (S.state store.old).hash trees.now }
     ensures ok { OnOk result (Becomes (all_stored (objects_of trees.now) (S.state store.old)) (S.state store.new)) }
-    ensures err { OnErr result ((n : ℕ) × (n < length trees.now) × Becomes (all_stored (take n (objects_of trees.now)) (S.state store.old)) (S.state store.new)) }
+    ensures err { OnErr result ((n : ℕ) × (n < length trees.now)
+        × Becomes (all_stored (take n (objects_of trees.now)) (S.state store.old)) (S.state store.new)) }
     ensures fault { IfFault result (HasCause (S.state store.old) (S.state store.new)) }
 {
+    gx_store::laws::after();
     for tree in trees {
         store.write(alloc, tree.id, Kind::Tree, tree.bytes.as_slice())?;
     }
@@ -35,7 +37,8 @@ pub(super) fn store_trees<S: Objects>(
 
 /// Whether the object is stored, as the empty tree always is.
 fn is_stored<S: Objects>(alloc: Global, store: &S, id: &ObjectId) -> Result<bool, StoreError>
-    ensures found { IfOk result (λ found. IfSome (S.state store.now).content (λ content. IsTrue found ↔ IsStored content id.now)) }
+    ensures found { IfOk result (λ found. IfSome (S.state store.now).content
+        (λ content. IsTrue found ↔ IsStored content id.now)) }
     ensures fault { IfFault result (IsUnreadable (S.state store.now) (part.Object id.now)) }
 {
     if id.is_empty_tree() {

@@ -45,7 +45,8 @@ impl<'a> Iterator for PathEntries<'a> {
 
     type Item = PathEntry<'a>;
 
-    ghost next_gives = { YieldsFirstBy (λ entry. (entry.path.now, record { mode = entry.mode; id = entry.id })) (λ rows. rows) };
+    ghost next_gives = { YieldsFirstBy (λ entry. (entry.path.now, record { mode = entry.mode; id = entry.id }))
+        (λ rows. rows) };
 
     ghost remaining = { item_count (λ rows. rows) };
 

@@ -3,28 +3,13 @@ ghost use Rattle.std.specs.Prelude.{◌≡◌, ◌==◌, ◌<◌, ℕ, length, t
 ghost use Rattle.std.specs.List.{list_any};
 ghost use Rattle.gx_edit.specs.Path.{Path, components};
 ghost use Rattle.gx_edit.specs.PathMap.{put, dropped};
-ghost use Rattle.gx_edit.specs.PathList.{map_of, has_empty_name};
+ghost use Rattle.gx_edit.specs.PathList.{map_of};
 ghost use Rattle.gx_edit.specs.PathTexts.{rows_of, leaf_at_text, is_below, without};
 
 use crate::Leaf;
-use crate::path::split_first_name;
 use gx_hash::{Bytes, NoMemory};
 use std::alloc::Global;
 use std::collections::BTreeMap;
-
-/// Whether a name of the path is empty.
-pub(super) fn has_empty_name(path: &[u8]) -> bool
-    ensures { result ≡ has_empty_name (components path.now) }
-{
-    let mut rest = path;
-    while let Some((name, below)) = split_first_name(rest) {
-        if name.is_empty() {
-            return true;
-        }
-        rest = below;
-    }
-    rest.is_empty()
-}
 
 /// The leaf at a path.
 #[tactic(auto, using(crate::proofs::TextLemmas::found_leaf))]
@@ -36,7 +21,8 @@ pub(super) fn leaf_at(map: &BTreeMap<Vec<u8>, Leaf>, path: &[u8]) -> Option<Leaf
 
 #[tactic(auto, using(crate::proofs::TextLemmas::updated))]
 fn remove_text(map: &mut BTreeMap<Vec<u8>, Leaf>, text: &[u8])
-    ensures { (q : List ℕ) → leaf_at_text (rows_of map.new) q ≡ (if bytes_eq text.now q then None else leaf_at_text (rows_of map.old) q) }
+    ensures { (q : List ℕ) → leaf_at_text (rows_of map.new) q ≡ (if bytes_eq text.now q then None
+        else leaf_at_text (rows_of map.old) q) }
 {
     let _ = map.remove(text);
 }
@@ -44,7 +30,9 @@ fn remove_text(map: &mut BTreeMap<Vec<u8>, Leaf>, text: &[u8])
 /// Takes away the part of a path before a place, where a slash stands there.
 fn remove_front(map: &mut BTreeMap<Vec<u8>, Leaf>, path: &[u8], at: usize)
     requires { at < length path.now }
-    ensures { (q : List ℕ) → leaf_at_text (rows_of map.new) q ≡ (if (slice_index path.now at == 47) && bytes_eq (take at path.now) q then None else leaf_at_text (rows_of map.old) q) }
+    ensures { (q : List ℕ) → leaf_at_text (rows_of map.new) q
+        ≡ (if (slice_index path.now at == 47) && bytes_eq (take at path.now) q then None
+        else leaf_at_text (rows_of map.old) q) }
 {
     if path[at] == b'/' {
         remove_text(map, path.split_at(at).0);
@@ -53,7 +41,8 @@ fn remove_front(map: &mut BTreeMap<Vec<u8>, Leaf>, path: &[u8], at: usize)
 
 /// Takes away the paths that lead to this one.
 fn remove_above(map: &mut BTreeMap<Vec<u8>, Leaf>, path: &[u8])
-    ensures { (q : List ℕ) → leaf_at_text (rows_of map.new) q ≡ (if is_below q path.now then None else leaf_at_text (rows_of map.old) q) }
+    ensures { (q : List ℕ) → leaf_at_text (rows_of map.new) q ≡ (if is_below q path.now then None
+        else leaf_at_text (rows_of map.old) q) }
 {
     for at in 0..path.len() {
         remove_front(map, path, at);
@@ -75,7 +64,8 @@ fn texts_below(
     map: &BTreeMap<Vec<u8>, Leaf>,
     path: &[u8],
 ) -> Result<Vec<Bytes>, NoMemory>
-    ensures { IfOk result (λ texts. (q : List ℕ) → list_any (bytes_eq q) texts.items ≡ (is_below path.now q && is_some (leaf_at_text (rows_of map.now) q))) }
+    ensures { IfOk result (λ texts. (q : List ℕ)
+        → list_any (bytes_eq q) texts.items ≡ (is_below path.now q && is_some (leaf_at_text (rows_of map.now) q))) }
 {
     let from = with_byte(alloc, path, b'/')?;
     let to = with_byte(alloc, path, b'/' + 1)?;
@@ -101,7 +91,9 @@ fn insert_text(
     text: &[u8],
     leaf: Leaf,
 ) -> Result<(), NoMemory>
-    ensures ok { OnOk result ((q : List ℕ) → leaf_at_text (rows_of map.new) q ≡ (if bytes_eq text.now q then Some leaf else leaf_at_text (rows_of map.old) q)) }
+    ensures ok { OnOk result ((q : List ℕ)
+        → leaf_at_text (rows_of map.new) q ≡ (if bytes_eq text.now q then Some leaf
+        else leaf_at_text (rows_of map.old) q)) }
     ensures err { OnErr result (rows_of map.new ≡ rows_of map.old) }
 {
     let key = Vec::from_slice(alloc, text)?;
@@ -116,7 +108,8 @@ pub(super) fn put(
     path: &[u8],
     leaf: Leaf,
 ) -> Result<(), NoMemory>
-    ensures ok { OnOk result ((q : Path) → map_of (rows_of map.new) q ≡ put (map_of (rows_of map.old)) (components path.now) leaf q) }
+    ensures ok { OnOk result ((q : Path)
+        → map_of (rows_of map.new) q ≡ put (map_of (rows_of map.old)) (components path.now) leaf q) }
     ensures err { OnErr result (rows_of map.new ≡ rows_of map.old) }
 {
     let below = texts_below(alloc, map, path)?;
@@ -132,7 +125,8 @@ pub(super) fn drop_path(
     map: &mut BTreeMap<Vec<u8>, Leaf>,
     path: &[u8],
 ) -> Result<(), NoMemory>
-    ensures ok { OnOk result ((q : Path) → map_of (rows_of map.new) q ≡ dropped (map_of (rows_of map.old)) (components path.now) q) }
+    ensures ok { OnOk result ((q : Path)
+        → map_of (rows_of map.new) q ≡ dropped (map_of (rows_of map.old)) (components path.now) q) }
     ensures err { OnErr result (rows_of map.new ≡ rows_of map.old) }
 {
     let below = texts_below(alloc, map, path)?;

@@ -24,7 +24,8 @@ pub(super) fn insert_leaf(
     directory: &[u8],
     entry: &Entry,
 ) -> Result<(), NoMemory>
-    ensures { OnOk result ((q : Path) → map_of (rows_of leaves.new) q ≡ (if path_eq (components (directory.now ++ entry.now.filename)) q
+    ensures { OnOk result ((q : Path)
+        → map_of (rows_of leaves.new) q ≡ (if path_eq (components (directory.now ++ entry.now.filename)) q
         then Some (record { mode = entry.now.mode; id = entry.now.oid }) else map_of (rows_of leaves.old) q)) }
 {
     let name = entry.filename.as_slice();

@@ -85,7 +85,8 @@ pub(super) fn entries_of(
     hash: HashKind,
     bytes: &[u8],
 ) -> Result<Option<Vec<Entry>>, NoMemory>
-    ensures { IfOk result (λ found. MatchOption found ((entries : List Entry) → ¬ SpellsCanonically hash bytes.now entries) (λ entries. SpellsRising hash bytes.now entries.items)) }
+    ensures { IfOk result (λ found. MatchOption found ((entries : List Entry)
+        → ¬ SpellsCanonically hash bytes.now entries) (λ entries. SpellsRising hash bytes.now entries.items)) }
 {
     let tree = match TreeRef::from_bytes(alloc, bytes, hash) {
         Ok(tree) => tree,

@@ -2,9 +2,7 @@
 ghost use Rattle.std.specs.Prelude.{◌≡◌, ◌⊎◌, IsTrue, IfOk, IfErr, IfSome, Some};
 ghost use Rattle.gx_object.specs.declared.kind.Kind.TheVariants as object_kind;
 ghost use Rattle.gx_store.specs.Content.{lookup};
-ghost use Rattle.gx_store.specs.State.{IsUnreadable};
-ghost use Rattle.gx_store.specs.declared.error.What.TheVariants as part;
-ghost use Rattle.gx_edit.specs.OpenTree.{IsOpened, IsOneOf, OpenCauses};
+ghost use Rattle.gx_edit.specs.OpenTree.{IsOpened, IsOneOf, LoadCauses, OpenCauses};
 
 use super::listing::entries_of;
 use crate::EditError;
@@ -31,7 +29,7 @@ fn find_object<S: Objects>(
     id: ObjectId,
 ) -> Result<Option<(Kind, Bytes)>, EditError>
     ensures found { IfOk result (λ found. IfSome (S.state store.now).content (λ content. found ≡ lookup content id)) }
-    ensures refused { IfErr result (OpenCauses (S.state store.now) id) }
+    ensures refused { IfErr result (LoadCauses (S.state store.now) id) }
 {
     match store.read(alloc, &id) {
         Ok(Some(object)) => Ok(Some(object)),
@@ -45,9 +43,14 @@ fn find_object<S: Objects>(
 }
 
 /// The bytes of the tree at an id.
-fn tree_at<S: Objects>(alloc: Global, store: &S, id: ObjectId) -> Result<Bytes, EditError>
-    ensures found { IfOk result (λ bytes. IfSome (S.state store.now).content (λ content. lookup content id ≡ Some (object_kind.Tree, bytes))) }
-    ensures refused { IfErr result (OpenCauses (S.state store.now) id) }
+pub(crate) fn tree_at<S: Objects>(
+    alloc: Global,
+    store: &S,
+    id: ObjectId,
+) -> Result<Bytes, EditError>
+    ensures found { IfOk result (λ bytes. IfSome (S.state store.now).content
+        (λ content. lookup content id ≡ Some (object_kind.Tree, bytes))) }
+    ensures refused { IfErr result (LoadCauses (S.state store.now) id) }
 {
     match find_object(alloc, store, id)? {
         None => Err(EditError::FindExistingObject { id }),

@@ -20,7 +20,7 @@ fn key_byte(entry: &Entry, at: usize) -> Option<u8>
 }
 
 /// How the sort keys of two entries compare.
-pub(super) fn compare_keys(a: &Entry, b: &Entry) -> Ordering
+pub(crate) fn compare_keys(a: &Entry, b: &Entry) -> Ordering
     ensures { result ≡ name_cmp (sort_key a.now) (sort_key b.now) }
 {
     let mut at = 0;

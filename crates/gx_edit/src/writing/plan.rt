@@ -37,7 +37,8 @@ struct OpenDirectory<'a> {
 
 impl Plan {
     fn push_tree(&mut self, hash: HashKind, bytes: Vec<u8>) -> Result<ObjectId, NoMemory>
-        ensures { IfOk result (λ id. (id ≡ (planned hash (object_kind.Tree, bytes.items)).id) × (made self.new ≡ with_tree (planned hash (object_kind.Tree, bytes.items)) (made self.old))) }
+        ensures { IfOk result (λ id. (id ≡ (planned hash (object_kind.Tree, bytes.items)).id)
+            × (made self.new ≡ with_tree (planned hash (object_kind.Tree, bytes.items)) (made self.old))) }
     {
         let bytes = Bytes::from_vec(bytes);
         let id = object_id(hash, Kind::Tree.as_bytes(), bytes.as_slice());
@@ -53,8 +54,10 @@ impl Plan {
         name: &[u8],
         id: ObjectId,
     ) -> Result<(), NoMemory>
-        ensures bytes { OnOk result (bytes.new.items ≡ bytes.old.items ++ entry_bytes (record { mode = mode; filename = name.now; oid = id })) }
-        ensures entry { OnOk result (made self.new ≡ with_entry (record { mode = mode; filename = name.now; oid = id }) (made self.old)) }
+        ensures bytes { OnOk result (bytes.new.items ≡ bytes.old.items ++ entry_bytes
+            (record { mode = mode; filename = name.now; oid = id })) }
+        ensures entry { OnOk result (made self.new ≡ with_entry (record { mode = mode; filename = name.now; oid = id })
+            (made self.old)) }
     {
         let entry = Entry {
             mode,
@@ -73,7 +76,8 @@ pub(super) fn plan_trees(
     hash: HashKind,
     rows: &[Row],
 ) -> Result<(Plan, ObjectId), NoMemory>
-    ensures { IfOk result (λ answer. (d : Directory) → IsCanonical d → leaves_of d ≡ rows_at 0 rows.now → IsPlan hash d answer.0 answer.1) }
+    ensures { IfOk result (λ answer. (d : Directory) → IsCanonical d → leaves_of d ≡ rows_at 0 rows.now
+        → IsPlan hash d answer.0 answer.1) }
 {
     let mut plan = Plan {
         trees: Vec::new(alloc),

@@ -256,7 +256,7 @@ leads_to_message hash tree parents author committer who whom encoding hs p q a b
     leads_then hash Tree Encoding (late_stage encoding hs) (committer_text tree parents author committer) (encoding_line encoding ++ flat_map raw_line hs)
     (leads_to_encoding hash tree parents author committer who whom p q a b d e) (leads_late hash encoding hs f g)
 
--- one text as it stands in the definition, and as its parts come
+-- one text as the definition has it, and as its parts come
 pub late_text_is : (tree : List ℕ) (parents : List (List ℕ)) (author committer : List ℕ) (encoding : Option (List ℕ)) (hs : List HeaderText) (more : List ℕ)
     → late_text tree parents author committer encoding hs ++ more
     ≡ text_line (codes "tree ") tree ++ (flat_map (text_line (codes "parent ")) parents ++ (text_line (codes "author ") author ++ (text_line (codes "committer ") committer ++ (encoding_line encoding ++ (flat_map raw_line hs ++ more)))))

@@ -158,7 +158,7 @@ folds_more bytes rest more p f = record {
   each = each_more p.lines f.line p.each (f.has.one.1);
 }
 
--- a line stands as it is in a folded value
+-- a folded value contains a line as it is
 pub folded_line : (line more : List ℕ) → IsOneLine line → folded (line ++ more) ≡ line ++ folded more
 folded_line [] more p = refl
 folded_line (b ∷ bs) more p = rw (ne_eqb b 10 p.0) (ap (λ l. b ∷ l) (folded_line bs more p.1))
@@ -185,7 +185,7 @@ value_lines first rest lines open_ each =
     ∙ sym (append_assoc first (folded (behind_newlines lines)) (10 ∷ rest))
     ∙ ap (λ l. l ++ 10 ∷ rest) (sym (folded_line first (behind_newlines lines) open_))
 
--- what stands between two parts whose lengths are known
+-- what is between two parts whose lengths are known
 between : (bytes front mid back : List ℕ) → bytes ≡ front ++ (mid ++ back) → take (length bytes - length back - length front) (drop (length front) bytes) ≡ mid
 between bytes front mid back e =
     ap (take (length bytes - length back - length front)) (ap (drop (length front)) e ∙ drop_at front (mid ++ back) (length front) refl)

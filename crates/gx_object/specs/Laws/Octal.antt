@@ -34,7 +34,7 @@ octal_step n (suc j) out six some within more =
     let fuel : suc j + 58 ≡ suc (j + 58) = omega arith in
     rw (before, fuel, octal_written out j (48 + n % 8) (omega arith)) (sym (octal_more (j + 58) n (drop (suc j) out) more))
 
--- a number that has at most so many digits has one less without its last
+-- a number that has at most this many digits has one less without its last
 pub octal_fits : (n at : ℕ) → 0 < at → n < 8 ^ at → n / 8 < 8 ^ (at - 1)
 octal_fits n zero some fits = absurd (omega arith)
 octal_fits n (suc k) some fits = let e = pow-suc 8 k in let same : suc k - 1 ≡ k = omega arith in rw same (omega (arith, e))

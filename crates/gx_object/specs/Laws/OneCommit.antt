@@ -1,7 +1,7 @@
 -- Bytes spell one commit at most.
 use Rattle.std.proofs.Common.{◌≡◌, ◌≢◌, ◌∙◌, sym, ap, refl, subst, ℕ, List, [], ◌∷◌, ◌++◌, map, codes, arith, append_assoc, Option, Some, None, ◌⊎◌, inl, inr, Result, Ok, Err}
 use Rattle.std.specs.List.{flat_map, AllByRecursion}
-use Rattle.std.specs.Prelude.{Contains, IfOk, IsErrOf, MatchResult}
+use Rattle.std.specs.Prelude.{Contains, IfOk, IfErr, MatchResult}
 use Rattle.std.proofs.lemmas.Bool.Decides.{eqb_tells}
 use Rattle.std.proofs.lemmas.List.{append-nil, append_cancel_left, append_cancel_right, get_or_default}
 use Rattle.std.proofs.lemmas.List.Elements.{recursion_from_All}
@@ -13,7 +13,7 @@ use Rattle.gx_object.specs.declared.decode.DecodeError.TheVariants.{Decode, NoMe
 use Rattle.gx_object.specs.Commit.{encoding_line, folded_byte}
 use Rattle.gx_object.specs.IdentitySpelling.{IdentityText, SpellsIdentity, DropsSpaceBehind, DropsSpaceInFront}
 use Rattle.gx_hash.specs.IdDigits.{IsHexId}
-use Rattle.gx_object.specs.CommitSpelling.{IsOneLine, HeaderText, CommitText, IsHeader, HasEncoding, raw_line, text_line, folded, SpellsCommit, IsNoCommit, commit_text}
+use Rattle.gx_object.specs.CommitSpelling.{IsOneLine, HeaderText, CommitText, IsHeader, HasEncoding, raw_line, text_line, folded, SpellsCommit, CommitCauses, commit_text}
 use Rattle.gx_object.specs.CommitLines.{HasIdentityLine, HasHeader, IsNoFold}
 use Rattle.gx_object.specs.CommitItems.{Item, TreeId, ParentId, AuthorIs, CommitterIs, EncodingIs, HeaderIs, MessageIs, late_items, items_of, HasIdLine, IsFirstItem, IsMessage, ItemAt, ReadsAll}
 use Rattle.gx_object.specs.Laws.LineLemmas.{Without, has_byte, same_split, name_without_space, name_without_newline, folded_line, raw_line_open}
@@ -327,8 +327,8 @@ pub one_commit : (hash : HashKind) (bytes : List ℕ) (a b : CommitText) → Spe
 one_commit hash bytes a b p q = same_items a b (one_reading hash Tree bytes (items_of a) (items_of b) (reads_commit hash bytes a p) (reads_commit hash bytes b q))
 
 -- what is answered for a commit is that commit
-pub only_commit : (hash : HashKind) (bytes : List ℕ) (result : Result CommitRef DecodeError) → IfOk result (λ c. SpellsCommit hash bytes (commit_text c)) → ((at : ℕ) → IsErrOf result (Decode at) → IsNoCommit hash bytes at)
+pub only_commit : (hash : HashKind) (bytes : List ℕ) (result : Result CommitRef DecodeError) → IfOk result (λ c. SpellsCommit hash bytes (commit_text c)) → IfErr result (CommitCauses hash bytes)
     → (c : CommitText) → SpellsCommit hash bytes c → MatchResult result (λ found. commit_text found ≡ c) (λ e. e ≡ NoMemory)
 only_commit hash bytes (Ok found) p q c s = one_commit hash bytes (commit_text found) c p s
-only_commit hash bytes (Err (Decode at)) p q c s = absurd ((q at refl).none c s)
+only_commit hash bytes (Err (Decode at)) p q c s = absurd (q.none c s)
 only_commit hash bytes (Err NoMemory) p q c s = refl

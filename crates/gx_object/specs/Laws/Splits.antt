@@ -17,14 +17,14 @@ lacks_from byte (b ∷ bs) none =
 pub lacks_nowhere : (byte : ℕ) (text : List ℕ) → Nowhere (Passes (is_byte byte) text) 0 (length text) → Lacks byte text
 lacks_nowhere byte text nowhere = lacks_from byte text (λ k within is. nowhere k (omega arith) within (eq-eqb _ _ is))
 
--- the text in front of the first such byte
+-- the text before the first such byte
 pub lacks_in_front : (byte : ℕ) (text : List ℕ) (at : ℕ) → NoneBefore (Passes (is_byte byte) text) 0 (length text) at → Lacks byte (take at text)
 lacks_in_front byte text at first =
     let high = first.high in
     let short : length (take at text) ≡ at = length-take-le at text (omega arith) in
     lacks_from byte (take at text) (λ k within is. let below : k < at = omega arith in first.before k (omega arith) below (eq-eqb _ _ (sym (get_or-take at text k 0 below) ∙ is)))
 
--- a text is what stands in front of a byte, that byte, and what follows it
+-- a text is what is before a byte, that byte, and what follows it
 pub cut_at : (byte : ℕ) (text : List ℕ) (at : ℕ) → at < length text → Passes (is_byte byte) text at → text ≡ take at text ++ byte ∷ drop (at + 1) text
 cut_at byte text at within here = sym (take-append-drop at text) ∙ ap (λ rest. take at text ++ rest) (drop_more text at 0 within ∙ ap (λ b. b ∷ drop (at + 1) text) (eqb-true _ _ here))
 

@@ -14,7 +14,7 @@ use Rattle.gx_object.specs.declared.signature.Time.{Time}
 use Rattle.gx_object.specs.Identity.{two_digits, sign_of, offset_bytes, time_bytes, identity_bytes, is_writable_text, is_writable_offset, is_writable_identity}
 use Rattle.gx_object.specs.IdentitySpelling.{SpellsIdentity}
 use Rattle.gx_object.specs.CommitSpelling.{IsOneLine}
-use Rattle.gx_object.specs.TimeSpelling.{SpellsTwoDigits, SpellsSeconds, IsSignedBy, SpellsOffset, SpellsTime}
+use Rattle.gx_object.specs.TimeSpelling.{SpellsTwoDigits, SpellsSeconds, HasSign, SpellsOffset, SpellsTime}
 use Rattle.gx_object.specs.WrittenText.{written_identity, HasSeconds, IsWholeMinutes, CanWriteIdentity}
 use Rattle.gx_object.specs.Laws.LineLemmas.{Without, without_append}
 
@@ -60,7 +60,7 @@ pub seconds_spelled : (z : ℤ) → FitsSigned w64 z → SpellsSeconds (signed_d
 seconds_spelled (pos n) p = (p, inl (n, decimal_of n (omega (arith, p)), refl))
 seconds_spelled (negsuc n) p = (p, inr (decimal (suc n), suc n, refl, decimal_of (suc n) (omega (arith, p)), refl))
 
-signed_by : (offset : ℤ) (seconds : ℕ) → seconds ≡ unsigned_abs offset → IsSignedBy (sign_of offset) seconds offset
+signed_by : (offset : ℤ) (seconds : ℕ) → seconds ≡ unsigned_abs offset → HasSign (sign_of offset) seconds offset
 signed_by (pos n) seconds e = inl (refl, ap pos (sym e))
 signed_by (negsuc n) seconds e = inr (refl, ap (λ k. neg_ℤ (pos k)) (sym e))
 
@@ -89,7 +89,7 @@ time_spelled time fits writable whole = record {
   offset = offset_spelled time.offset (small time.offset writable) whole;
 }
 
--- No byte of it parts fields or lines.
+-- No byte of it separates fields or lines.
 abbrev NoDigit : ℕ → Type 0
 NoDigit c = (c < 43) ⊎ (57 < c)
 

@@ -1,12 +1,13 @@
-//! Commits as they stand in objects.
-ghost use Rattle.std.specs.Prelude.{◌≡◌, ◌-◌, ◌++◌, List, OnOk, [], ℕ, length, map, IfOk, IsErrOf, MatchResult};
+//! Commits as objects contain them.
+ghost use Rattle.std.specs.Prelude.{◌≡◌, ◌-◌, ◌++◌, List, OnOk, [], ℕ, length, map, IfOk, IfErr, IfSome, MatchResult};
 ghost use Rattle.std.specs.Option.{option_map};
 ghost use Rattle.bstr.specs.BStr.{bstr_bytes};
 ghost use Rattle.gx_object.specs.declared.decode.DecodeError.TheVariants.{Decode, NoMemory as no_memory};
 ghost use Rattle.gx_object.specs.CommitLines.{HasParents, HasHeaders, PushesHeaders};
 ghost use Rattle.gx_object.specs.OwnedCommit.{HasIdsOf};
-ghost use Rattle.gx_object.specs.CommitSpelling.{CommitText, commit_text, header_text, folded, unfolded, SpellsCommit, IsNoCommit};
+ghost use Rattle.gx_object.specs.CommitSpelling.{CommitText, commit_text, header_text, folded, unfolded, SpellsCommit, CommitCauses};
 
+use crate::commit::fields::read_message;
 use crate::commit::lines::{header, id_line, identity_line, is_encoding, message};
 use crate::{DecodeError, SignatureRef};
 use bstr::BStr;
@@ -15,7 +16,7 @@ use smallvec::SmallVec;
 use std::alloc::Global;
 use std::marker::Model;
 
-/// A header of a commit beyond those that each commit has, as it stands in the object.
+/// A header of a commit beyond those that each commit has, as the object contains it.
 #[derive(Clone, Copy, Debug)]
 pub struct ExtraHeader<'a> {
     pub name: BStr<'a>,
@@ -26,7 +27,7 @@ pub struct ExtraHeader<'a> {
 impl<'a> ExtraHeader<'a> {
     /// The value without the space that begins each of its lines after the first.
     pub fn value(&self, alloc: Global) -> Result<Bytes, NoMemory>
-        ensures value { IfOk result (λ found. found ≡ unfolded (bstr_bytes self.now.raw)) }
+        ensures ok { IfOk result (λ found. found ≡ unfolded (bstr_bytes self.now.raw)) }
         ensures folded { (value : List ℕ) → bstr_bytes self.now.raw ≡ folded value
             → IfOk result (λ found. found ≡ value) }
     {
@@ -93,7 +94,7 @@ impl<'a> ExtraHeaders<'a> {
     }
 }
 
-/// A commit as it stands in an object. All texts are slices of it.
+/// A commit as an object contains it. All texts are slices of the object.
 #[derive(Debug, Drop)]
 pub struct CommitRef<'a> {
     /// The digits of the tree's id.
@@ -109,45 +110,46 @@ pub struct CommitRef<'a> {
 }
 
 impl<'a> CommitRef<'a> {
-    /// The commit that the bytes spell, in a repository of this kind.
+    /// The commit that the bytes spell, in a repository of this kind. Memory runs out only for bytes that spell one.
     pub fn from_bytes(
         alloc: Global,
         bytes: &'a [u8],
         hash: HashKind,
     ) -> Result<CommitRef<'a>, DecodeError>
-        ensures spelled { IfOk result (λ c. SpellsCommit hash bytes.now (commit_text c)) }
+        ensures ok { IfOk result (λ c. SpellsCommit hash bytes.now (commit_text c)) }
+        ensures causes { IfErr result (CommitCauses hash bytes.now) }
         ensures only { (c : CommitText) → SpellsCommit hash bytes.now c
             → MatchResult result (λ found. commit_text found ≡ c) (λ e. e ≡ no_memory) }
-        ensures refused { (at : ℕ) → IsErrOf result (Decode at) → IsNoCommit hash bytes.now at }
         ensures ids { IfOk result (λ c. HasIdsOf hash (commit_text c)) }
     {
-        read_commit(alloc, bytes, hash)
+        match read_commit(alloc, bytes, hash) {
+            Some(commit) => Ok(commit),
+            None => Err(refusal(bytes, hash)),
+        }
     }
 }
 
-fn read_commit<'a>(
-    alloc: Global,
-    bytes: &'a [u8],
-    hash: HashKind,
-) -> Result<CommitRef<'a>, DecodeError>
-    ensures spelled { IfOk result (λ c. SpellsCommit hash bytes.now (commit_text c)) }
-    ensures refused { (at : ℕ) → IsErrOf result (Decode at) → IsNoCommit hash bytes.now at }
+// Why the bytes were not read. It goes over them again and takes no memory.
+fn refusal(bytes: &[u8], hash: HashKind) -> DecodeError
+    ensures { CommitCauses hash bytes.now result }
 {
-    let Some((tree, rest)) = id_line(bytes, b"tree ", hash) else {
-        return Err(bad_line(bytes, bytes));
-    };
-    let (parents, rest) = parent_lines(alloc, rest, hash)?;
-    let Some((author, rest)) = identity_line(rest, b"author ") else {
-        return Err(bad_line(bytes, rest));
-    };
-    let Some((committer, rest)) = identity_line(rest, b"committer ") else {
-        return Err(bad_line(bytes, rest));
-    };
-    let (encoding, extra_headers, rest) = header_lines(alloc, rest)?;
-    let Some(message) = message(rest) else {
-        return Err(bad_line(bytes, rest));
-    };
-    Ok(CommitRef {
+    match read_message(bytes, hash) {
+        Ok(_) => DecodeError::NoMemory,
+        Err(error) => error,
+    }
+}
+
+// The commit that the bytes spell, if they spell one and there is memory for its parents and headers.
+fn read_commit<'a>(alloc: Global, bytes: &'a [u8], hash: HashKind) -> Option<CommitRef<'a>>
+    ensures { IfSome result (λ c. SpellsCommit hash bytes.now (commit_text c)) }
+{
+    let (tree, rest) = id_line(bytes, b"tree ", hash)?;
+    let (parents, rest) = parent_lines(alloc, rest, hash).ok()?;
+    let (author, rest) = identity_line(rest, b"author ")?;
+    let (committer, rest) = identity_line(rest, b"committer ")?;
+    let (encoding, extra_headers, rest) = header_lines(alloc, rest).ok()?;
+    let message = message(rest)?;
+    Some(CommitRef {
         tree,
         parents,
         author,

@@ -21,9 +21,9 @@ impl<'a> CommitRefIter<'a> {
     pub fn tree_id(&self) -> Result<ObjectId, DecodeError>
         ensures commit { (c : CommitText) → SpellsCommit self.now.text.hash self.now.text.bytes c
             → MatchResult result (λ id. hex_of id ≡ c.tree) (λ _. ⊥) }
-        ensures found { IfOk result (λ id. StandsInFront self.now.text (TreeId (hex_of id))) }
+        ensures ok { IfOk result (λ id. StandsInFront self.now.text (TreeId (hex_of id))) }
         ensures kind { IfOk result (IsOfKind self.now.text.hash) }
-        ensures refused { IfErr result (GoesWrong self.now.text Tree) }
+        ensures causes { IfErr result (GoesWrong self.now.text Tree) }
     {
         let Some((text, _)) = id_line(self.bytes, b"tree ", self.hash) else {
             return Err(bad_line(self.bytes, self.bytes));
@@ -35,8 +35,8 @@ impl<'a> CommitRefIter<'a> {
     pub fn author(&self) -> Result<SignatureRef<'a>, DecodeError>
         ensures commit { (c : CommitText) → SpellsCommit self.now.text.hash self.now.text.bytes c
             → MatchResult result (λ who. identity_text who ≡ c.author) (λ _. ⊥) }
-        ensures found { IfOk result (λ who. StandsInFront self.now.text (AuthorIs (identity_text who))) }
-        ensures refused { IfErr result (GoesWrongByAuthor self.now.text) }
+        ensures ok { IfOk result (λ who. StandsInFront self.now.text (AuthorIs (identity_text who))) }
+        ensures causes { IfErr result (GoesWrongByAuthor self.now.text) }
     {
         let (signature, _) = author_line(self.bytes, self.hash)?;
         Ok(signature)
@@ -46,8 +46,8 @@ impl<'a> CommitRefIter<'a> {
     pub fn committer(&self) -> Result<SignatureRef<'a>, DecodeError>
         ensures commit { (c : CommitText) → SpellsCommit self.now.text.hash self.now.text.bytes c
             → MatchResult result (λ who. identity_text who ≡ c.committer) (λ _. ⊥) }
-        ensures found { IfOk result (λ who. StandsInFront self.now.text (CommitterIs (identity_text who))) }
-        ensures refused { IfErr result (GoesWrongByCommitter self.now.text) }
+        ensures ok { IfOk result (λ who. StandsInFront self.now.text (CommitterIs (identity_text who))) }
+        ensures causes { IfErr result (GoesWrongByCommitter self.now.text) }
     {
         let (signature, _) = committer_line(self.bytes, self.hash)?;
         Ok(signature)
@@ -57,8 +57,8 @@ impl<'a> CommitRefIter<'a> {
     pub fn message(&self) -> Result<BStr<'a>, DecodeError>
         ensures commit { (c : CommitText) → SpellsCommit self.now.text.hash self.now.text.bytes c
             → MatchResult result (λ text. bstr_bytes text ≡ c.message) (λ _. ⊥) }
-        ensures found { IfOk result (λ text. SpellsMessage self.now.text (bstr_bytes text)) }
-        ensures refused { IfErr result (SpellsNone self.now.text) }
+        ensures ok { IfOk result (λ text. SpellsMessage self.now.text (bstr_bytes text)) }
+        ensures causes { IfErr result (SpellsNone self.now.text) }
     {
         read_message(self.bytes, self.hash)
     }

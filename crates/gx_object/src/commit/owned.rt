@@ -10,8 +10,8 @@ ghost use Rattle.gx_object.specs.declared.signature.decode.SignatureError.TheVar
 ghost use Rattle.gx_hash.specs.IdDigits.{IsHexId};
 ghost use Rattle.gx_object.specs.CommitSpelling.{commit_text, header_text};
 ghost use Rattle.gx_object.specs.IdentitySpelling.{identity_text};
-ghost use Rattle.gx_object.specs.OwnedCommit.{HasIds, HasIdsOf, HasNoTime, IsCopyOf, IsOfHash, owned_header};
-ghost use Rattle.gx_object.specs.OwnedTag.{OwnsIdentity};
+ghost use Rattle.gx_object.specs.OwnedCommit.{HasIds, HasIdsOf, IsCopyOf, IsOfHash, owned_header};
+ghost use Rattle.gx_object.specs.OwnedTag.{HasNoTime, OwnsIdentity};
 ghost use Rattle.gx_object.specs.TimeSpelling.{SpellsTime};
 
 use super::{Commit, CommitRef, ExtraHeader, OwnedHeader};
@@ -22,16 +22,15 @@ use std::alloc::Global;
 
 impl CommitRef<'_> {
     /// A copy that owns its parts, in memory of its own: the borrowed texts have none to go on with. Both times are
-    /// read
-    /// before anything is copied.
+    /// read before anything is copied.
     ///
     /// # Errors
     /// `BadTime` where the author's or the committer's time can't be read.
     pub fn to_owned(&self, alloc: Global) -> Result<Commit, SignatureError>
         requires { HasIds (commit_text self.now) }
-        ensures copy { IfOk result (IsCopyOf (commit_text self.now)) }
+        ensures ok { IfOk result (IsCopyOf (commit_text self.now)) }
         ensures kind { (hash : HashKind) → HasIdsOf hash (commit_text self.now) → IfOk result (IsOfHash hash) }
-        ensures bad_time { IsErrOf result bad_time
+        ensures causes { IsErrOf result bad_time
             ↔ (HasNoTime (commit_text self.now).author ⊎ HasNoTime (commit_text self.now).committer) }
     {
         let author_time = self.author.time()?;
@@ -49,7 +48,7 @@ fn own_commit(
     requires ids { HasIds (commit_text commit.now) }
     requires author { SpellsTime (commit_text commit.now).author.time author_time }
     requires committer { SpellsTime (commit_text commit.now).committer.time committer_time }
-    ensures copy { IfOk result (IsCopyOf (commit_text commit.now)) }
+    ensures ok { IfOk result (IsCopyOf (commit_text commit.now)) }
     ensures kind { (hash : HashKind) → HasIdsOf hash (commit_text commit.now) → IfOk result (IsOfHash hash) }
 {
     Ok(Commit {
@@ -76,7 +75,7 @@ fn own_identity(alloc: Global, who: &SignatureRef<'_>, time: Time) -> Result<Sig
 
 fn own_ids(alloc: Global, digits: &[BStr<'_>]) -> Result<Ids, NoMemory>
     requires { (hash : HashKind) × AllByRecursion (IsHexId hash) (map bstr_bytes digits.now) }
-    ensures digits { IfOk result (λ ids. map hex_of ids ≡ map bstr_bytes digits.now) }
+    ensures ok { IfOk result (λ ids. map hex_of ids ≡ map bstr_bytes digits.now) }
     ensures kind { (hash : HashKind) → AllByRecursion (IsHexId hash) (map bstr_bytes digits.now)
         → IfOk result (AllByRecursion (IsOfKind hash)) }
 {

@@ -50,11 +50,11 @@ pub fn signature_of<'a>(
     bytes: &'a [u8],
     hash: HashKind,
 ) -> Result<Option<(Bytes, SignedData<'a>)>, DecodeError>
-    ensures told { IfOk result (λ told. MatchOption told (IsUnsigned hash bytes.now)
+    ensures ok { IfOk result (λ told. MatchOption told (IsUnsigned hash bytes.now)
         (λ p. IsSignedBy hash bytes.now p.0 p.1)) }
     ensures only { (c : CommitText) → SpellsCommit hash bytes.now c
         → MatchResult result (TellsSignature hash bytes.now c) (λ e. e ≡ no_memory) }
-    ensures missed { IfErr result (MissesSignature hash bytes.now) }
+    ensures causes { IfErr result (MissesSignature hash bytes.now) }
 {
     read_signature(alloc, bytes, hash)
 }
@@ -64,9 +64,9 @@ fn read_signature<'a>(
     bytes: &'a [u8],
     hash: HashKind,
 ) -> Result<Option<(Bytes, SignedData<'a>)>, DecodeError>
-    ensures told { IfOk result (λ told. MatchOption told (IsUnsigned hash bytes.now)
+    ensures ok { IfOk result (λ told. MatchOption told (IsUnsigned hash bytes.now)
         (λ p. IsSignedBy hash bytes.now p.0 p.1)) }
-    ensures missed { IfErr result (MissesSignature hash bytes.now) }
+    ensures causes { IfErr result (MissesSignature hash bytes.now) }
 {
     let Some((header, signed)) = find_signature(bytes, hash)? else {
         return Ok(None);
@@ -79,10 +79,10 @@ fn find_signature<'a>(
     bytes: &'a [u8],
     hash: HashKind,
 ) -> Result<Option<(ExtraHeader<'a>, SignedData<'a>)>, DecodeError>
-    ensures found { IfOk result
+    ensures ok { IfOk result
         (λ found. MatchOption found (IsUnsigned hash bytes.now)
         (λ p. SpellsSome hash bytes.now (λ c. HasSignature hash bytes.now c (header_text p.0) p.1))) }
-    ensures refused { IfErr result (RefusesCommit hash bytes.now) }
+    ensures causes { IfErr result (RefusesCommit hash bytes.now) }
 {
     let _ = read_message(bytes, hash)?;
     let (_, headers) = committer_line(bytes, hash)?;
@@ -101,7 +101,7 @@ fn name_of_signature(hash: HashKind) -> &'static [u8]
     }
 }
 
-// The first header of the name, the bytes from it on, and those behind it.
+// The first header of the name, the bytes from it on, and those after it.
 fn first_named<'a>(bytes: &'a [u8], name: &[u8]) -> Option<(ExtraHeader<'a>, &'a [u8], &'a [u8])>
     ensures { (headers : List HeaderText) (message : List ℕ) → AllByRecursion IsHeader headers
         → bytes.now ≡ lines_to_end headers message
@@ -118,7 +118,7 @@ fn first_named<'a>(bytes: &'a [u8], name: &[u8]) -> Option<(ExtraHeader<'a>, &'a
     None
 }
 
-// The bytes without what stands between these two ends of them.
+// The bytes without what is between these two ends of them.
 fn without_header<'a>(bytes: &'a [u8], lines: &'a [u8], rest: &'a [u8]) -> SignedData<'a>
     ensures { result ≡ take (length bytes.now - length lines.now) bytes.now ++ rest.now }
 {

@@ -1,5 +1,6 @@
 //! The bytes that spell commits.
-ghost use Rattle.std.specs.Prelude.{◌≡◌, [], ◌∷◌, ◌==◌, ◌&&◌, ◌++◌, not, codes, true, false, OnOk, IfOk, IsErrOf, IfSome, IfNone};
+ghost use Rattle.std.specs.Prelude.{◌≡◌, [], ◌∷◌, ◌==◌, ◌&&◌, ◌++◌, not, codes, true, false, OnOk, OnErr, IfSome, IfNone};
+ghost use Rattle.std.specs.Io.{StartsWith};
 ghost use Rattle.std.specs.List.{flat_map, list_all};
 ghost use Rattle.gx_object.specs.Field.{first_unwritable};
 ghost use Rattle.gx_object.specs.Commit.{id_line, identity_line, head_bytes, plain_commit_bytes, encoding_line, folded_byte, header_line, commit_bytes, is_writable_header, is_writable_encoding, is_writable_commit};
@@ -22,8 +23,9 @@ pub fn push_commit(
     committer: &Signature,
     message: &[u8],
 ) -> Result<(), NoMemory>
-    ensures { OnOk result (out.new.items ≡ out.old.items
+    ensures ok { OnOk result (out.new.items ≡ out.old.items
         ++ plain_commit_bytes tree.now parents.now author.now committer.now message.now) }
+    ensures leaves { OnErr result (StartsWith out.new.items out.old.items) }
 {
     out.reserve(room_of(tree, parents, author, committer).saturating_add(message.len()))?;
     push_head(out, tree, parents, author, committer)?;
@@ -60,7 +62,9 @@ fn push_head(
     author: &Signature,
     committer: &Signature,
 ) -> Result<(), NoMemory>
-    ensures { OnOk result (out.new.items ≡ out.old.items ++ head_bytes tree.now parents.now author.now committer.now) }
+    ensures ok { OnOk result (out.new.items
+        ≡ out.old.items ++ head_bytes tree.now parents.now author.now committer.now) }
+    ensures leaves { OnErr result (StartsWith out.new.items out.old.items) }
 {
     push_id_line(out, b"tree ", tree)?;
     push_parents(out, parents)?;
@@ -69,7 +73,8 @@ fn push_head(
 }
 
 pub(crate) fn push_id_line(out: &mut Vec<u8>, word: &[u8], id: &ObjectId) -> Result<(), NoMemory>
-    ensures { OnOk result (out.new.items ≡ out.old.items ++ id_line word.now id.now) }
+    ensures ok { OnOk result (out.new.items ≡ out.old.items ++ id_line word.now id.now) }
+    ensures leaves { OnErr result (StartsWith out.new.items out.old.items) }
 {
     out.extend_from_slice(word)?;
     id.push_hex(out)?;
@@ -78,7 +83,8 @@ pub(crate) fn push_id_line(out: &mut Vec<u8>, word: &[u8], id: &ObjectId) -> Res
 }
 
 fn push_parents(out: &mut Vec<u8>, parents: &[ObjectId]) -> Result<(), NoMemory>
-    ensures { OnOk result (out.new.items ≡ out.old.items ++ flat_map (id_line (codes "parent ")) parents.now) }
+    ensures ok { OnOk result (out.new.items ≡ out.old.items ++ flat_map (id_line (codes "parent ")) parents.now) }
+    ensures leaves { OnErr result (StartsWith out.new.items out.old.items) }
 {
     for id in parents {
         push_id_line(out, b"parent ", id)?;
@@ -91,7 +97,8 @@ pub(crate) fn push_identity_line(
     word: &[u8],
     who: &Signature,
 ) -> Result<(), NoMemory>
-    ensures { OnOk result (out.new.items ≡ out.old.items ++ identity_line word.now who.now) }
+    ensures ok { OnOk result (out.new.items ≡ out.old.items ++ identity_line word.now who.now) }
+    ensures leaves { OnErr result (StartsWith out.new.items out.old.items) }
 {
     out.extend_from_slice(word)?;
     push_identity(out, who)?;

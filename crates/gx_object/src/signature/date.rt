@@ -1,4 +1,4 @@
-//! Times as they stand in objects.
+//! Times as objects contain them.
 ghost use Rattle.std.specs.Prelude.{◌≡◌, ◌<◌, ℕ, ℤ, [], ◌∷◌, MatchOption, SomeIff};
 ghost use Rattle.std.specs.Char.{digit_value};
 ghost use Rattle.gx_object.specs.declared.signature.Time.{Time};
@@ -18,7 +18,7 @@ pub(crate) fn read_time(text: &[u8]) -> Option<Time>
     })
 }
 
-/// The seconds that stand in front of the first space.
+/// The seconds before the first space.
 pub(crate) fn leading_seconds(text: &[u8]) -> Option<i64>
     ensures { MatchOption result ((seconds : ℤ)
         → ¬ SpellsSeconds (seconds_text text.now) seconds) (SpellsSeconds (seconds_text text.now)) }

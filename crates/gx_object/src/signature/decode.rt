@@ -1,4 +1,4 @@
-//! Identities as they stand in objects.
+//! Identities as objects contain them.
 ghost use Rattle.std.specs.Prelude.{◌≡◌, ◌↔◌, MatchOption, MatchResult, IfOk, IsErrOf};
 ghost use Rattle.bstr.specs.BStr.{bstr_bytes};
 ghost use Rattle.gx_object.specs.declared.signature.Time.{Time};
@@ -50,7 +50,7 @@ impl From<NoMemory> for SignatureError {
 pub struct SignatureRef<'a> {
     pub name: BStr<'a>,
     pub email: BStr<'a>,
-    /// The time as it stands there, which may be none: `time` reads it.
+    /// The text of the time, which may be no time: `time` reads it.
     pub time: BStr<'a>,
 }
 
@@ -86,7 +86,7 @@ impl<'a> SignatureRef<'a> {
         ensures name { IfOk result (λ owned. owned.name ≡ bstr_bytes self.now.name) }
         ensures email { IfOk result (λ owned. owned.email ≡ bstr_bytes self.now.email) }
         ensures time { IfOk result (λ owned. SpellsTime (bstr_bytes self.now.time) owned.time) }
-        ensures bad_time { IsErrOf result SignatureError.BadTime
+        ensures causes { IsErrOf result SignatureError.BadTime
             ↔ ((time : Time) → ¬ SpellsTime (bstr_bytes self.now.time) time) }
     {
         let time = self.time()?;

@@ -1,5 +1,6 @@
 //! The bytes that spell identities, and which of them can be written.
-ghost use Rattle.std.specs.Prelude.{◌≡◌, ◌++◌, true, false, OnOk, IfSome, IfNone};
+ghost use Rattle.std.specs.Prelude.{◌≡◌, ◌++◌, true, false, OnOk, OnErr, IfSome, IfNone};
+ghost use Rattle.std.specs.Io.{StartsWith};
 ghost use Rattle.gx_object.specs.Field.{first_unwritable};
 ghost use Rattle.gx_object.specs.Identity.{two_digits, offset_bytes, time_bytes, identity_bytes, is_writable_text, is_writable_offset, is_writable_identity, are_writable};
 
@@ -11,7 +12,8 @@ use std::alloc::AllocError;
 /// Appends the identity as objects and logs write it.
 #[tactic(auto, unfolding(crate::specs::Identity::identity_bytes))]
 pub fn push_identity(out: &mut Vec<u8>, who: &Signature) -> Result<(), NoMemory>
-    ensures { OnOk result (out.new.items ≡ out.old.items ++ identity_bytes who.now) }
+    ensures ok { OnOk result (out.new.items ≡ out.old.items ++ identity_bytes who.now) }
+    ensures leaves { OnErr result (StartsWith out.new.items out.old.items) }
 {
     out.extend_from_slice(who.name.as_slice())?;
     out.extend_from_slice(b" <")?;
@@ -22,7 +24,8 @@ pub fn push_identity(out: &mut Vec<u8>, who: &Signature) -> Result<(), NoMemory>
 }
 
 fn push_time(out: &mut Vec<u8>, time: Time) -> Result<(), AllocError>
-    ensures { OnOk result (out.new.items ≡ out.old.items ++ time_bytes time) }
+    ensures ok { OnOk result (out.new.items ≡ out.old.items ++ time_bytes time) }
+    ensures leaves { OnErr result (StartsWith out.new.items out.old.items) }
 {
     out.extend_from_slice(Buffer::new().format(time.seconds).as_bytes())?;
     out.push(b' ')?;
@@ -32,7 +35,8 @@ fn push_time(out: &mut Vec<u8>, time: Time) -> Result<(), AllocError>
 
 #[tactic(auto, unfolding(crate::specs::Identity::offset_bytes))]
 fn push_offset(out: &mut Vec<u8>, offset: i32) -> Result<(), AllocError>
-    ensures { OnOk result (out.new.items ≡ out.old.items ++ offset_bytes offset) }
+    ensures ok { OnOk result (out.new.items ≡ out.old.items ++ offset_bytes offset) }
+    ensures leaves { OnErr result (StartsWith out.new.items out.old.items) }
 {
     let size = offset.unsigned_abs();
     out.push(if offset < 0 { b'-' } else { b'+' })?;
@@ -42,7 +46,8 @@ fn push_offset(out: &mut Vec<u8>, offset: i32) -> Result<(), AllocError>
 }
 
 fn push_two_digits(out: &mut Vec<u8>, number: u32) -> Result<(), AllocError>
-    ensures { OnOk result (out.new.items ≡ out.old.items ++ two_digits number) }
+    ensures ok { OnOk result (out.new.items ≡ out.old.items ++ two_digits number) }
+    ensures leaves { OnErr result (StartsWith out.new.items out.old.items) }
 {
     if number < 10 {
         out.push(b'0')?;

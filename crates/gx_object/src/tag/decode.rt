@@ -1,4 +1,4 @@
-//! Tags as they stand in objects.
+//! Tags as objects contain them.
 ghost use Rattle.std.specs.Prelude.{◌≡◌, ◌↔◌, IfOk, IfErr, IsErrOf, MatchResult};
 ghost use Rattle.std.specs.Option.{option_map};
 ghost use Rattle.bstr.specs.BStr.{bstr_bytes};
@@ -17,7 +17,7 @@ use bstr::BStr;
 use gx_hash::{Bytes, HashKind, NoMemory, ObjectId};
 use std::alloc::Global;
 
-/// An annotated tag as it stands in an object. All texts are slices of it.
+/// An annotated tag as an object contains it. All texts are slices of the object.
 #[derive(Clone, Copy, Debug)]
 pub struct TagRef<'a> {
     /// The digits of the target's id.
@@ -35,9 +35,9 @@ pub struct TagRef<'a> {
 impl<'a> TagRef<'a> {
     /// The tag that the bytes spell, in a repository of this kind. It takes no memory.
     pub fn from_bytes(bytes: &'a [u8], hash: HashKind) -> Result<TagRef<'a>, DecodeError>
-        ensures spelled { IfOk result (λ t. SpellsTag hash bytes.now (tag_text t)) }
+        ensures ok { IfOk result (λ t. SpellsTag hash bytes.now (tag_text t)) }
         ensures only { (t : TagText) → SpellsTag hash bytes.now t → IfOk result (λ found. tag_text found ≡ t) }
-        ensures refused { IfErr result (RefusesTag hash bytes.now) }
+        ensures causes { IfErr result (RefusesTag hash bytes.now) }
         ensures id { IfOk result (λ t. IsIdText (tag_text t).target) }
     {
         read_tag(bytes, hash)
@@ -46,10 +46,10 @@ impl<'a> TagRef<'a> {
     /// A copy that owns its texts. The tagger's time is read first.
     pub fn to_owned(&self, alloc: Global) -> Result<Tag, SignatureError>
         requires { IsIdText (tag_text self.now).target }
-        ensures owned { IfOk result (OwnsTag (tag_text self.now)) }
+        ensures ok { IfOk result (OwnsTag (tag_text self.now)) }
         ensures kind { (hash : HashKind) → IsHexId hash (tag_text self.now).target
             → IfOk result (λ owned. IsOfKind hash owned.target) }
-        ensures bad_time { IsErrOf result SignatureError.BadTime ↔ HasBadTime (tag_text self.now).tagger }
+        ensures causes { IsErrOf result SignatureError.BadTime ↔ HasBadTime (tag_text self.now).tagger }
     {
         let tagger = owned_tagger(alloc, &self.tagger)?;
         Ok(Tag {
@@ -67,8 +67,8 @@ fn owned_tagger(
     alloc: Global,
     tagger: &Option<SignatureRef<'_>>,
 ) -> Result<Option<Signature>, SignatureError>
-    ensures owned { IfOk result (OwnsTagger (option_map identity_text tagger.now)) }
-    ensures bad_time { IsErrOf result SignatureError.BadTime ↔ HasBadTime (option_map identity_text tagger.now) }
+    ensures ok { IfOk result (OwnsTagger (option_map identity_text tagger.now)) }
+    ensures causes { IsErrOf result SignatureError.BadTime ↔ HasBadTime (option_map identity_text tagger.now) }
 {
     match tagger {
         None => Ok(None),

@@ -18,10 +18,10 @@ impl<'a> TagRefIter<'a> {
     pub fn target_id(&self) -> Result<ObjectId, DecodeError>
         ensures tag { (t : TagText) → SpellsTag self.now.text.hash self.now.text.bytes t
             → MatchResult result (λ id. hex_of id ≡ t.target) (λ _. ⊥) }
-        ensures found { IfOk result
+        ensures ok { IfOk result
             (λ id. StandsInFront self.now.text.hash self.now.text.bytes 0 (TargetIs (hex_of id))) }
         ensures kind { IfOk result (IsOfKind self.now.text.hash) }
-        ensures refused { IfErr result (GoesWrong self.now.text.hash self.now.text.bytes 0) }
+        ensures causes { IfErr result (GoesWrong self.now.text.hash self.now.text.bytes 0) }
     {
         let Some((text, _)) = id_line(self.bytes, b"object ", self.hash) else {
             return Err(bad_line(self.bytes, self.bytes));
@@ -33,9 +33,9 @@ impl<'a> TagRefIter<'a> {
     pub fn tagger(&self) -> Result<Option<SignatureRef<'a>>, DecodeError>
         ensures tag { (t : TagText) → SpellsTag self.now.text.hash self.now.text.bytes t
             → MatchResult result (λ who. option_map identity_text who ≡ t.tagger) (λ _. ⊥) }
-        ensures found { IfOk result
+        ensures ok { IfOk result
             (λ who. TellsTagger self.now.text.hash self.now.text.bytes (option_map identity_text who)) }
-        ensures refused { IfErr result (GoesWrongByTagger self.now.text.hash self.now.text.bytes) }
+        ensures causes { IfErr result (GoesWrongByTagger self.now.text.hash self.now.text.bytes) }
     {
         read_tagger(self.bytes, self.hash)
     }

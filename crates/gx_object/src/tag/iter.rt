@@ -7,6 +7,14 @@ use gx_hash::HashKind;
 use std::marker::Model;
 
 /// Gives the parts of a tag without taking memory. After an error it ends.
+///
+/// ```
+/// for part in TagRefIter::from_bytes(bytes, HashKind::Sha1) {
+///     if let TagToken::Name(name) = part? {
+///         println!(rt; "{name}")?;
+///     }
+/// }
+/// ```
 #[derive(Clone, Debug, Drop)]
 pub struct TagRefIter<'a> {
     pub(crate) bytes: &'a [u8],

@@ -1,10 +1,9 @@
 //! Trees as their bytes spell them.
-ghost use Rattle.std.specs.Prelude.{◌≡◌, ℕ, List, map, IfOk, IfErr, IsErrOf, MatchOption, MatchResult};
+ghost use Rattle.std.specs.Prelude.{◌≡◌, ℕ, List, map, IfOk, IfErr, IfSome, MatchOption, MatchResult};
 ghost use Rattle.std.specs.List.{AllByRecursion};
 ghost use Rattle.gx_hash.specs.HashKind.{IsOfKind};
 ghost use Rattle.gx_object.specs.declared.tree.Entry.{Entry};
-ghost use Rattle.gx_object.specs.declared.decode.DecodeError.TheVariants.{Decode, NoMemory as no_memory};
-ghost use Rattle.gx_object.specs.TreeSpelling.{entry_of, SpellsMode, SpellsEntry, SpellsTree, IsBadPlace, BeginsWithEntry};
+ghost use Rattle.gx_object.specs.TreeSpelling.{entry_of, SpellsMode, SpellsTree, TreeCauses, BeginsWithEntry};
 
 use crate::split::split_at_byte;
 use crate::{DecodeError, Entries, Entry, EntryMode, EntryRefs, Tree};
@@ -34,38 +33,35 @@ impl EntryRef<'_> {
 }
 
 /// A directory, whose names are slices of its bytes.
+///
+/// ```
+/// let tree = TreeRef::from_bytes(alloc, bytes, HashKind::Sha1)?;
+/// for entry in tree.entries.as_slice() {
+///     let id = entry.oid;
+/// }
+/// ```
 #[derive(Debug, Drop)]
 pub struct TreeRef<'a> {
     pub entries: EntryRefs<'a>,
 }
 
 impl<'a> TreeRef<'a> {
-    /// The entries that the bytes spell, with ids of this kind.
+    /// The entries that the bytes spell, with ids of this kind. Memory runs out only for bytes that spell a tree.
     pub fn from_bytes(
         alloc: Global,
         bytes: &'a [u8],
         hash: HashKind,
     ) -> Result<TreeRef<'a>, DecodeError>
-        ensures spelled { IfOk result (λ tree. SpellsTree hash bytes.now (map entry_of tree.entries)) }
+        ensures ok { IfOk result (λ tree. SpellsTree hash bytes.now (map entry_of tree.entries)) }
         ensures kind { IfOk result (λ tree. AllByRecursion (λ e. IsOfKind hash e.oid) tree.entries) }
-        ensures bad_place { (at : ℕ) → IsErrOf result (DecodeError.Decode at) → IsBadPlace hash bytes.now at }
+        ensures causes { IfErr result (TreeCauses hash bytes.now) }
         ensures only { (entries : List Entry) → SpellsTree hash bytes.now entries
             → MatchResult result (λ tree. map entry_of tree.entries ≡ entries) (λ error. error ≡ DecodeError.NoMemory) }
     {
-        let mut entries = Vec::new(alloc);
-        let mut rest = bytes;
-        while !rest.is_empty() {
-            let Some((entry, behind)) = split_entry(hash, rest) else {
-                return Err(DecodeError::Decode {
-                    at: bytes.len() - rest.len(),
-                });
-            };
-            entries.push(entry)?;
-            rest = behind;
+        match read_entries(alloc, bytes, hash) {
+            Some(entries) => Ok(TreeRef { entries }),
+            None => Err(refusal(bytes, hash)),
         }
-        Ok(TreeRef {
-            entries: EntryRefs::from_vec(entries),
-        })
     }
 
     /// A copy that owns its names.
@@ -82,6 +78,36 @@ impl<'a> TreeRef<'a> {
             entries: Entries::from_vec(owned),
         })
     }
+}
+
+// The entries that the bytes spell, if they spell some and there is memory for them.
+fn read_entries(alloc: Global, bytes: &[u8], hash: HashKind) -> Option<EntryRefs<'_>>
+    ensures { IfSome result (λ entries. SpellsTree hash bytes.now (map entry_of entries)) }
+{
+    let mut entries = Vec::new(alloc);
+    let mut rest = bytes;
+    while !rest.is_empty() {
+        let (entry, behind) = split_entry(hash, rest)?;
+        entries.push(entry).ok()?;
+        rest = behind;
+    }
+    Some(EntryRefs::from_vec(entries))
+}
+
+// Why the bytes were not read. It goes over them again and takes no memory.
+fn refusal(bytes: &[u8], hash: HashKind) -> DecodeError
+    ensures { TreeCauses hash bytes.now result }
+{
+    let mut rest = bytes;
+    while !rest.is_empty() {
+        let Some((_, behind)) = split_entry(hash, rest) else {
+            return DecodeError::Decode {
+                at: bytes.len() - rest.len(),
+            };
+        };
+        rest = behind;
+    }
+    DecodeError::NoMemory
 }
 
 /// The entry that the bytes begin with, and what follows it.

@@ -1,5 +1,6 @@
 //! The bytes that spell trees.
-ghost use Rattle.std.specs.Prelude.{◌≡◌, ◌≤◌, ◌==◌, ◌++◌, not, true, false, drop, OnOk, IfOk, IsErrOf};
+ghost use Rattle.std.specs.Prelude.{◌≡◌, ◌≤◌, ◌==◌, ◌++◌, not, true, false, drop, OnOk, OnErr};
+ghost use Rattle.std.specs.Io.{StartsWith};
 ghost use Rattle.std.specs.List.{list_all};
 ghost use Rattle.gx_object.specs.Tree.{octal_of, entry_bytes, tree_bytes, is_writable_filename, is_writable_tree};
 ghost use Rattle.gx_object.specs.declared.kind.Kind.TheVariants as object_kind;
@@ -11,7 +12,8 @@ use std::alloc::{AllocError, Global};
 /// Appends the entry's spelling.
 #[tactic(auto, unfolding(crate::specs::Tree::entry_bytes))]
 pub fn push_entry(out: &mut Vec<u8>, entry: &Entry) -> Result<(), NoMemory>
-    ensures { OnOk result (out.new.items ≡ out.old.items ++ entry_bytes entry.now) }
+    ensures ok { OnOk result (out.new.items ≡ out.old.items ++ entry_bytes entry.now) }
+    ensures leaves { OnErr result (StartsWith out.new.items out.old.items) }
 {
     push_octal(out, entry.mode.value)?;
     out.push(b' ')?;
@@ -23,7 +25,8 @@ pub fn push_entry(out: &mut Vec<u8>, entry: &Entry) -> Result<(), NoMemory>
 
 /// Appends the spelling of the tree with these entries, in their order.
 pub fn push_tree(out: &mut Vec<u8>, entries: &[Entry]) -> Result<(), NoMemory>
-    ensures { OnOk result (out.new.items ≡ out.old.items ++ tree_bytes entries.now) }
+    ensures ok { OnOk result (out.new.items ≡ out.old.items ++ tree_bytes entries.now) }
+    ensures leaves { OnErr result (StartsWith out.new.items out.old.items) }
 {
     for entry in entries {
         push_entry(out, entry)?;
@@ -32,7 +35,8 @@ pub fn push_tree(out: &mut Vec<u8>, entries: &[Entry]) -> Result<(), NoMemory>
 }
 
 fn push_octal(out: &mut Vec<u8>, mode: u16) -> Result<(), AllocError>
-    ensures { OnOk result (out.new.items ≡ out.old.items ++ octal_of mode) }
+    ensures ok { OnOk result (out.new.items ≡ out.old.items ++ octal_of mode) }
+    ensures leaves { OnErr result (StartsWith out.new.items out.old.items) }
 {
     let mut digits = [0; 6];
     let start = write_octal(&mut digits, mode);

@@ -1,5 +1,5 @@
 -- A name is in the directory of its category, and is the prefix that the category's names share and its short name.
-use Rattle.std.proofs.Common.{◌≡◌, ℕ, zero, suc, Bool, true, false, cond, ◌<◌, ◌||◌, ◌==◌, List, [], ◌∷◌, ◌++◌, length, drop, Contains, nat_eq, codes, arith, refl, sym, subst, eq-eqb, Some, None, Option}
+use Rattle.std.proofs.Common.{◌≡◌, ℕ, zero, suc, Bool, true, false, cond, ◌||◌, ◌==◌, List, [], ◌∷◌, ◌++◌, length, drop, Contains, nat_eq, codes, arith, refl, sym, subst, eq-eqb, Some, None, Option}
 use Rattle.std.specs.List.{starts_with, list_any}
 use Rattle.std.proofs.lemmas.Bool.{eqb-true}
 use Rattle.gx_rules.specs.Category.{category_of, shared_prefix, short_name, IsIn, IsInDirectoryOf}

@@ -37,7 +37,7 @@ pub begins_back : (text rest : List ℕ) → starts_with nat_eq (text ++ rest) t
 begins_back [] rest = refl
 begins_back (t ∷ text) rest = and_from _ _ (eq-eqb t t refl) (begins_back text rest)
 
--- a text that stands at a place parts the name into what is before, the text, and what is after
+-- a text at a place splits the name into what is before it, the text, and what is after it
 stands_parts : (t : ℕ) (text name : List ℕ) (at : ℕ) → StandsAt (t ∷ text) name at → (front : List ℕ) × (rest : List ℕ) × (name ≡ front ++ ((t ∷ text) ++ rest)) × (length front ≡ at)
 stands_parts t text name at h =
     let rest : List ℕ = drop (length (t ∷ text)) (drop at name) in

@@ -83,9 +83,8 @@ fn is_ignorable(a: u8, b: u8, c: u8) -> bool
     }
 }
 
-/// Whether the name is the word, written in lower case, in any ASCII case, then any bytes of `fill`, and then ends or
-/// goes on with a
-/// byte of `cut`.
+/// Whether the name begins with the word, in any ASCII case, then has any bytes of `fill`, and then ends or goes on
+/// with a byte of `cut`. The word is given in lower case.
 #[tactic(auto, using(crate::proofs::SpellingLemmas::spells_same, crate::proofs::SpellingLemmas::spells_other))]
 pub(super) fn spells(name: Seen<'_>, word: &[u8], fill: &[u8], cut: &[u8]) -> bool
     ensures { result ≡ spells word.now fill.now cut.now name.entry }

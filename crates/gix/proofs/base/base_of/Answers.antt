@@ -1,12 +1,16 @@
-use Rattle.std.proofs.Common.{drop, subst, sym}
-use Rattle.gix.specs.CommitRequest.{CommitRequest, asked}
-use Rattle.gix.specs.Stages.{StageCauses}
-use Rattle.gix.proofs.BaseLemmas.{tree_refused, first_is}
+use Rattle.std.proofs.Common.{◌∙◌}
+use Rattle.std.proofs.lemmas.Result.{err_from_is_err_and}
 use Rattle.gix.proofs.base.base_of.Goals as goal
 
-pub returns-in-Err-clause-err : goal.returns-in-Err-clause-err
-returns-in-Err-clause-err g c = λ settings.
-    let s = g.S.Meanings.state c.args.store.now in
-    let r : CommitRequest = asked c.args.request.now in
-    subst (StageCauses settings r s) (sym c.lifted.ensures)
-    (tree_refused settings r s c.in-Some.parent.now (drop 1 r.parents) (first_is r.parents c.in-Some.parent.now c.in-Some.ensures.value) c.in_ok-tree.tree c.in-Err.refusal c.in_ok-tree.ensures.ok c.in-Err.ensures.refused)
+pub returns-in_err-root-clause-err : goal.returns-in_err-root-clause-err
+returns-in_err-root-clause-err g c = λ settings.
+    let p = err_from_is_err_and c.from_residual.result c.from_residual.ensures.1 in
+    rw (p.1, p.2) (c.in_err-root.ensures.err settings)
+
+pub returns-clause-ok : goal.returns-clause-ok
+returns-clause-ok g c = record {
+  hash = c.in_ok-new.ensures.kind ∙ c.hash_kind.ensures;
+  entries = c.in_ok-root.root.entries;
+  is_base = c.in_ok-root.ensures.ok;
+  fresh = c.in_ok-new.ensures.view;
+}

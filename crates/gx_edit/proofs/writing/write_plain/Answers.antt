@@ -13,4 +13,4 @@ returns-in_err-output-clause-causes g c =
 pub returns-clause-represents : goal.returns-clause-represents
 returns-clause-represents g c =
     let s = g.S.Meanings.state c.args.store.now in
-    represents_map (map_of c.args.map.now) c.args.protect s (g.S.Meanings.state c.write.new.store) c.in_ok-output.output (subst (λ h. IsOutputOf h (map_of c.args.map.now) c.in_ok-output.output) c.hash_kind.ensures c.in_ok-output.ensures.ok) c.write.result c.write.ensures.ok
+    represents_map c.writing_adds.ensures c.added_is_found.ensures (map_of c.args.map.now) c.args.protect s (g.S.Meanings.state c.write.new.store) c.in_ok-output.output (subst (λ h. IsOutputOf h (map_of c.args.map.now) c.in_ok-output.output) c.hash_kind.ensures c.in_ok-output.ensures.ok) c.write.result c.write.ensures.ok

@@ -10,7 +10,7 @@ pub loop-name-init : goal.loop-name-init
 loop-name-init c =
     let start = range_from c.args.prefix.now c.args.map.now.entries c.into_iter-name-iterator.result c.range-name-items.ensures.ordered
     (c.into_iter-name-iterator.ensures.into_iter_gives ∙ c.range-name-items.ensures.between tt
-    ∙ ap (λ p. entries_between name_cmp (Included p) Unbounded c.args.map.now.entries) (c.new_unchecked-from.ensures ∙ c.in_ok-from_slice.ensures)) in
+    ∙ ap (λ p. entries_between name_cmp (Included p) Unbounded c.args.map.now.entries) c.in_ok-from.ensures) in
     (tt, tt, start.0, start.1)
 
 pub returns-then-not-starts_with : goal.returns-then-not-starts_with
@@ -22,7 +22,8 @@ pub returns-then-has_target : goal.returns-then-has_target
 returns-then-has_target c =
     let i = c.loop-name.invariant in
     let step = step_listed c.args.prefix.now c.in-Some.name.now c.in-Some.slot.now _ c.next.new.self [] _ c.in-Some.ensures.steps i.2 i.3 (search rules) (search rules) in
-    ap Some c.in_ok-try_clone.ensures ∙ ap (λ xs. slice_get xs 0) (step.1 ∙ sym (listed_names c.args.prefix.now c.args.map.now.entries c.range-name-items.ensures.ordered))
+    let same : c.in_ok-name_of.field-0 ≡ c.in-Some.name.now = search rules in
+    ap Some same ∙ ap (λ xs. slice_get xs 0) (step.1 ∙ sym (listed_names c.args.prefix.now c.args.map.now.entries c.range-name-items.ensures.ordered))
 
 pub loop-name-preserved : goal.loop-name-preserved
 loop-name-preserved c =

@@ -10,7 +10,7 @@ pub loop-name-init : goal.loop-name-init
 loop-name-init c =
     let start = range_from c.args.prefix.now c.args.map.now.entries c.into_iter-name-iterator.result c.range-name-items.ensures.ordered
     (c.into_iter-name-iterator.ensures.into_iter_gives ∙ c.range-name-items.ensures.between tt
-    ∙ ap (λ p. entries_between name_cmp (Included p) Unbounded c.args.map.now.entries) (c.new_unchecked-from.ensures ∙ c.in_ok-from_slice.ensures)) in
+    ∙ ap (λ p. entries_between name_cmp (Included p) Unbounded c.args.map.now.entries) c.in_ok-from.ensures) in
     (tt, tt, start.0, ap (λ x. x ++ wanted c.args.prefix.now c.into_iter-name-iterator.result) c.new-names.ensures.items ∙ start.1)
 
 pub returns-then-not-starts_with : goal.returns-then-not-starts_with
@@ -21,9 +21,10 @@ returns-then-not-starts_with c =
 pub loop-name-preserved-in_ok-push : goal.loop-name-preserved-in_ok-push
 loop-name-preserved-in_ok-push c =
     let i = c.loop-name.invariant in
-    let added : c.push.new.self.items ≡ c.loop-name.names.items ++ c.in_ok-try_clone.field-0 ∷ [] = search rules in
+    let added : c.push.new.self.items ≡ c.loop-name.names.items ++ c.in_ok-name_of.field-0 ∷ [] = search rules in
+    let same : c.in_ok-name_of.field-0 ≡ c.in-Some.name.now = search rules in
     let step = step_listed c.args.prefix.now c.in-Some.name.now c.in-Some.slot.now _ c.next.new.self c.loop-name.names.items _ c.in-Some.ensures.steps i.2 i.3 (search rules) (search rules) in
-    (tt, tt, step.0, ap (λ x. x ++ wanted c.args.prefix.now c.next.new.self) (added ∙ ap (λ name. c.loop-name.names.items ++ name ∷ []) c.in_ok-try_clone.ensures) ∙ step.1)
+    (tt, tt, step.0, ap (λ x. x ++ wanted c.args.prefix.now c.next.new.self) (added ∙ ap (λ name. c.loop-name.names.items ++ name ∷ []) same) ∙ step.1)
 
 pub loop-name-preserved : goal.loop-name-preserved
 loop-name-preserved c =

@@ -11,8 +11,8 @@ returns-clause-ok g c =
     let same : objects_of c.deref.result.now ≡ o.trees = ap objects_of c.deref.ensures.value ∙ ap (λ (x : Output). x.trees) c.self.view_is in
     on_ok c.store_trees.result (trees_stored o (g.S.Meanings.state c.args.store.now) (g.S.Meanings.state c.store_trees.new.store) c.deref.result.now same) c.store_trees.ensures.ok
 
-pub returns-clause-err : goal.returns-clause-err
-returns-clause-err g c =
+pub returns-clause-leaves : goal.returns-clause-leaves
+returns-clause-leaves g c =
     let o : Output = c.args.self.now in
     let same : objects_of c.deref.result.now ≡ o.trees = ap objects_of c.deref.ensures.value ∙ ap (λ (x : Output). x.trees) c.self.view_is in
     on_err c.store_trees.result (first_stored o (g.S.Meanings.state c.args.store.now) (g.S.Meanings.state c.store_trees.new.store) c.deref.result.now same) c.store_trees.ensures.err

@@ -6,4 +6,4 @@ loop-tree-init g c = none_stored _
 
 pub loop-tree-preserved : goal.loop-tree-preserved
 loop-tree-preserved g c =
-    tree_more c.args.trees.now c.loop-tree.tree-index c.tree-item.result c.as_slice.result.now _ _ _ c.requires c.loop-tree-test.true c.tree-item.is c.as_slice.ensures c.loop-tree.invariant c.in_ok-write.ensures.ok
+    tree_more c.after.ensures.stored c.args.trees.now c.loop-tree.tree-index c.tree-item.result c.as_slice.result.now _ _ _ c.requires c.loop-tree-test.true c.tree-item.is c.as_slice.ensures c.loop-tree.invariant c.in_ok-write.ensures.ok

@@ -28,7 +28,7 @@ pub returns : goal.returns
 returns c =
     let items : c.into_vec-entries.result.items ≡ map entry_of c.in-Ok.tree.entries = c.into_vec-entries.ensures ∙ c.in_ok-to_owned.ensures in
     record {
-      spelled = subst (SpellsTree c.args.hash c.args.bytes.now) (sym items) c.in-Ok.ensures.spelled;
+      spelled = subst (SpellsTree c.args.hash c.args.bytes.now) (sym items) c.in-Ok.ensures.ok;
       only = λ others s. items ∙ c.in-Ok.ensures.only others s;
       written = c.in_ok-is_written.ensures.0 c.if-not-branch.false ∙ ap tree_bytes c.deref.ensures.value;
       sound = subst (AllByRecursion IsSound) c.deref-2.ensures.value (c.are_sound.ensures.0 c.if-not-are_sound.false);

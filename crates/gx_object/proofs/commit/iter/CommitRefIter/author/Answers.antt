@@ -1,6 +1,6 @@
 use Rattle.std.proofs.Common.{sym, subst}
 use Rattle.gx_object.specs.IdentitySpelling.{identity_text}
-use Rattle.gx_object.specs.CommitItems.{AuthorIs, StandsInFront, GoesWrongByAuthor}
+use Rattle.gx_object.specs.CommitItems.{AuthorIs, StandsInFront}
 use Rattle.gx_object.specs.CommitSpelling.{SpellsCommit}
 use Rattle.gx_object.specs.PartsRead.{PartsRead, object_text}
 use Rattle.gx_object.proofs.FieldLemmas.{author_found, author_of, no_author_wrong}
@@ -16,7 +16,7 @@ returns-clause-commit c c' s =
     author_of (object_text c.self.inside.hash c.self.inside.bytes.now) (identity_text c.in_ok-signature.signature) c.in_ok-signature.field-0-1.now c.in_ok-signature.ensures c'
     (subst (λ (v : PartsRead). SpellsCommit v.text.hash v.text.bytes c') (sym c.self.view_is) s)
 
-pub returns-clause-found : goal.returns-clause-found
-returns-clause-found c =
+pub returns-clause-ok : goal.returns-clause-ok
+returns-clause-ok c =
     subst (λ (v : PartsRead). StandsInFront v.text (AuthorIs (identity_text c.in_ok-signature.signature))) c.self.view_is
     (author_found (object_text c.self.inside.hash c.self.inside.bytes.now) (identity_text c.in_ok-signature.signature) c.in_ok-signature.field-0-1.now c.in_ok-signature.ensures)

@@ -1,6 +1,6 @@
 use Rattle.std.proofs.Common.{sym, subst}
 use Rattle.gx_object.specs.IdentitySpelling.{identity_text}
-use Rattle.gx_object.specs.CommitItems.{CommitterIs, StandsInFront, GoesWrongByCommitter}
+use Rattle.gx_object.specs.CommitItems.{CommitterIs, StandsInFront}
 use Rattle.gx_object.specs.CommitSpelling.{SpellsCommit}
 use Rattle.gx_object.specs.PartsRead.{PartsRead, object_text}
 use Rattle.gx_object.proofs.FieldLemmas.{committer_found, committer_of, no_committer_wrong}
@@ -16,7 +16,7 @@ returns-clause-commit c c' s =
     committer_of (object_text c.self.inside.hash c.self.inside.bytes.now) (identity_text c.in_ok-signature.signature) c.in_ok-signature.field-0-1.now c.in_ok-signature.ensures c'
     (subst (λ (v : PartsRead). SpellsCommit v.text.hash v.text.bytes c') (sym c.self.view_is) s)
 
-pub returns-clause-found : goal.returns-clause-found
-returns-clause-found c =
+pub returns-clause-ok : goal.returns-clause-ok
+returns-clause-ok c =
     subst (λ (v : PartsRead). StandsInFront v.text (CommitterIs (identity_text c.in_ok-signature.signature))) c.self.view_is
     (committer_found (object_text c.self.inside.hash c.self.inside.bytes.now) (identity_text c.in_ok-signature.signature) c.in_ok-signature.field-0-1.now c.in_ok-signature.ensures)

@@ -15,8 +15,8 @@ returns-in_default-clause-commit c c' s =
     wrong_is_none text Tree c.bad_line.result c' (tree_wrong text c.bad_line.result c.in_default.ensures c.bad_line.ensures)
     (subst (λ (v : PartsRead). SpellsCommit v.text.hash v.text.bytes c') (sym c.self.view_is) s)
 
-pub returns-in_default-clause-refused : goal.returns-in_default-clause-refused
-returns-in_default-clause-refused c =
+pub returns-in_default-clause-causes : goal.returns-in_default-clause-causes
+returns-in_default-clause-causes c =
     let text = object_text c.self.inside.hash c.self.inside.bytes.now in
     subst (λ (v : PartsRead). GoesWrong v.text Tree c.bad_line.result) c.self.view_is (tree_wrong text c.bad_line.result c.in_default.ensures c.bad_line.ensures)
 
@@ -26,8 +26,8 @@ returns-clause-commit c c' s =
     tree_of text (bstr_bytes c.in-Some.text) c.in-Some.field-0-1.now (hex_of c.id_of.result) c.in-Some.ensures (c.id_of.ensures.digits ∙ c.as_bytes.ensures) c'
     (subst (λ (v : PartsRead). SpellsCommit v.text.hash v.text.bytes c') (sym c.self.view_is) s)
 
-pub returns-clause-found : goal.returns-clause-found
-returns-clause-found c =
+pub returns-clause-ok : goal.returns-clause-ok
+returns-clause-ok c =
     let text = object_text c.self.inside.hash c.self.inside.bytes.now in
     subst (λ (v : PartsRead). StandsInFront v.text (TreeId (hex_of c.id_of.result))) c.self.view_is
     (tree_found text (bstr_bytes c.in-Some.text) c.in-Some.field-0-1.now (hex_of c.id_of.result) c.in-Some.ensures (c.id_of.ensures.digits ∙ c.as_bytes.ensures))

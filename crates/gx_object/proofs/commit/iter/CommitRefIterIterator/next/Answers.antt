@@ -1,4 +1,4 @@
-use Rattle.std.proofs.Common.{◌≡◌, ◌≢◌, ◌+◌, ◌<◌, subst, Some, Ok, Err}
+use Rattle.std.proofs.Common.{◌≢◌, ◌+◌, ◌<◌, subst, Some, Ok, Err}
 use Rattle.gx_object.specs.CommitItems.{item_of, GivesPart, parts_left}
 use Rattle.gx_object.specs.CommitNext.{CommitPlace, End, next_of}
 use Rattle.gx_object.specs.PartsRead.{PartsRead}

@@ -12,7 +12,7 @@ returns-clause-tag c t s =
     let it = c.self.inside in
     tagger_of_tag it.hash it.bytes.now c.read_tagger.result c.read_tagger.ensures t (subst (λ (v : PartsRead). SpellsTag v.text.hash v.text.bytes t) (sym c.self.view_is) s)
 
-pub returns-clause-found : goal.returns-clause-found
-returns-clause-found c =
+pub returns-clause-ok : goal.returns-clause-ok
+returns-clause-ok c =
     let it = c.self.inside in
     subst (λ (v : PartsRead). IfOk c.read_tagger.result (λ who. TellsTagger v.text.hash v.text.bytes (option_map identity_text who))) c.self.view_is (tagger_told it.hash it.bytes.now c.read_tagger.result c.read_tagger.ensures)

@@ -14,8 +14,8 @@ returns-in_default-clause-tag c t s =
     (wrong_target it.hash it.bytes.now c.bad_line.result c.in_default.ensures c.bad_line.ensures).none.none t
     (subst (λ (v : PartsRead). SpellsTag v.text.hash v.text.bytes t) (sym c.self.view_is) s)
 
-pub returns-in_default-clause-refused : goal.returns-in_default-clause-refused
-returns-in_default-clause-refused c =
+pub returns-in_default-clause-causes : goal.returns-in_default-clause-causes
+returns-in_default-clause-causes c =
     let it = c.self.inside in
     subst (λ (v : PartsRead). GoesWrong v.text.hash v.text.bytes 0 c.bad_line.result) c.self.view_is (wrong_target it.hash it.bytes.now c.bad_line.result c.in_default.ensures c.bad_line.ensures)
 
@@ -25,8 +25,8 @@ returns-clause-tag c t s =
     target_is it.hash it.bytes.now (bstr_bytes c.in-Some.text) c.in-Some.field-0-1.now (hex_of c.id_of.result) c.in-Some.ensures (c.id_of.ensures.digits ∙ c.as_bytes.ensures) t
     (subst (λ (v : PartsRead). SpellsTag v.text.hash v.text.bytes t) (sym c.self.view_is) s)
 
-pub returns-clause-found : goal.returns-clause-found
-returns-clause-found c =
+pub returns-clause-ok : goal.returns-clause-ok
+returns-clause-ok c =
     let it = c.self.inside in
     subst (λ (v : PartsRead). StandsInFront v.text.hash v.text.bytes 0 (TargetIs (hex_of c.id_of.result))) c.self.view_is
     (target_found it.hash it.bytes.now (bstr_bytes c.in-Some.text) c.in-Some.field-0-1.now (hex_of c.id_of.result) c.in-Some.ensures (c.id_of.ensures.digits ∙ c.as_bytes.ensures))

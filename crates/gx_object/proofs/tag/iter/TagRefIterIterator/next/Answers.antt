@@ -1,4 +1,4 @@
-use Rattle.std.proofs.Common.{◌≡◌, ◌≢◌, ◌<◌, subst, Some, Ok, Err}
+use Rattle.std.proofs.Common.{◌≢◌, ◌<◌, subst, Some, Ok, Err}
 use Rattle.gx_object.specs.PartsRead.{PartsRead}
 use Rattle.gx_object.specs.TagFronts.{End, next_of}
 use Rattle.gx_object.specs.TagItems.{item_of, GivesPart, parts_left, read_before}

@@ -1,0 +1,14 @@
+pub mod AskedLemmas
+pub mod CourseLemmas
+pub mod FrontierLemmas
+pub mod HiddenLemmas
+pub mod IdLemmas
+pub mod LawLemmas
+pub mod MentionLemmas
+pub mod NextLemmas
+pub mod ParentLemmas
+pub mod ReachLemmas
+pub mod ReadLemmas
+pub mod StepLemmas
+pub mod TellLemmas
+pub mod WalkLemmas

@@ -1,0 +1,13 @@
+pub mod Causes
+pub mod Course
+pub mod Frontier
+pub mod Graph
+pub mod History
+pub mod Ids
+pub mod Laws
+pub mod Lifting
+pub mod Rank
+pub mod Reaching
+pub mod Read
+pub mod Simple
+pub mod Walk

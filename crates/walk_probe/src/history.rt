@@ -1,0 +1,219 @@
+//! Rows of walks over a small history: `walk ORDER COMMIT .. tips LABEL ..`, and then `hide`, `boundary` or `shallow`,
+//! each with labels behind it.
+//!
+//! A commit is `LABEL:TIME` or `LABEL:TIME:PARENT,PARENT`, parents first; `LABEL:blob` is a blob, and `LABEL:bad` a
+//! commit that spells none. A label that no field spells names nothing that is stored. The word `first` follows first
+//! parents alone. The answer has the labels as they are listed, and behind them the error, where one comes.
+
+use gx_hash::{Bytes, HashKind, ObjectId, object_id};
+use gx_object::{Commit, Headers, Ids, Kind, Signature, Time, WriteTo};
+use gx_store::{Memory, write_object};
+use gx_walk::{CommitTimeOrder, Info, Parents, Simple, Sorting, WalkError};
+use probe_rows::ProbeError;
+use probe_rows::answers::{push_field, push_word, signed_of};
+use std::alloc::Global;
+
+/// Objects with their labels.
+#[derive(Drop)]
+struct History {
+    store: Memory,
+    labels: Vec<(Vec<u8>, ObjectId)>,
+}
+
+/// The answer of `walk`.
+pub fn answer(alloc: Global, fields: &[Vec<u8>]) -> Result<Vec<u8>, ProbeError> {
+    let Some((order, fields)) = fields.split_first() else {
+        return Err(ProbeError::BadLine);
+    };
+    let sorting = sorting_of(order).ok_or(ProbeError::BadLine)?;
+    walk(alloc, sorting, fields)
+}
+
+/// `breadth`, `newest`, `oldest`, or one of the last two with a colon and the seconds of a cutoff.
+fn sorting_of(field: &[u8]) -> Option<Sorting> {
+    let mut parts = field.split(|byte| *byte == b':');
+    let order = match str::from_utf8(parts.next()?).ok()? {
+        "breadth" => return Some(Sorting::BreadthFirst),
+        "newest" => CommitTimeOrder::NewestFirst,
+        "oldest" => CommitTimeOrder::OldestFirst,
+        _ => return None,
+    };
+    match parts.next() {
+        Some(seconds) => Some(Sorting::ByCommitTimeCutoff {
+            order,
+            seconds: signed_of(seconds)?,
+        }),
+        None => Some(Sorting::ByCommitTime(order)),
+    }
+}
+
+fn walk(alloc: Global, sorting: Sorting, fields: &[Vec<u8>]) -> Result<Vec<u8>, ProbeError> {
+    let history = history_of(alloc, fields)?;
+    let walk = Simple::new(
+        alloc,
+        ids_behind(alloc, &history, fields, b"tips")?,
+        &history.store,
+    )
+    .sorting(sorting)
+    .parents(parents_of(fields))
+    .hide(ids_behind(alloc, &history, fields, b"hide")?)
+    .boundary(ids_behind(alloc, &history, fields, b"boundary")?)
+    .shallow(ids_behind(alloc, &history, fields, b"shallow")?);
+    let mut answer = Vec::new(alloc);
+    for item in walk {
+        push_item(&mut answer, &history, item)?;
+    }
+    if answer.is_empty() {
+        push_word(&mut answer, "none")?;
+    }
+    Ok(answer)
+}
+
+fn parents_of(fields: &[Vec<u8>]) -> Parents {
+    if fields
+        .iter()
+        .any(|field| field.as_slice() == b"first".as_slice())
+    {
+        return Parents::First;
+    }
+    Parents::All
+}
+
+/// Whether the field is a word that ends what stands before it.
+fn is_word(field: &[u8]) -> bool {
+    matches!(
+        field,
+        b"tips" | b"hide" | b"boundary" | b"shallow" | b"first"
+    )
+}
+
+/// The ids of the labels between a word and the next one.
+fn ids_behind(
+    alloc: Global,
+    history: &History,
+    fields: &[Vec<u8>],
+    word: &[u8],
+) -> Result<Ids, ProbeError> {
+    let mut ids = Vec::new(alloc);
+    let mut is_behind = false;
+    for field in fields {
+        if is_word(field) {
+            is_behind = field.as_slice() == word;
+        } else if is_behind {
+            ids.push(id_of(history, field))?;
+        }
+    }
+    Ok(Ids::from_vec(ids))
+}
+
+/// The id of a label; that of one which no field spells is not stored.
+fn id_of(history: &History, label: &[u8]) -> ObjectId {
+    for (known, id) in &history.labels {
+        if known.as_slice() == label {
+            return *id;
+        }
+    }
+    object_id(HashKind::Sha1, b"commit", label)
+}
+
+/// The objects that the fields before the first word spell.
+fn history_of(alloc: Global, fields: &[Vec<u8>]) -> Result<History, ProbeError> {
+    let mut history = History {
+        store: Memory::new(alloc, HashKind::Sha1)?,
+        labels: Vec::new(alloc),
+    };
+    for field in fields {
+        if is_word(field) {
+            break;
+        }
+        store(alloc, &mut history, field)?;
+    }
+    Ok(history)
+}
+
+fn store(alloc: Global, history: &mut History, field: &[u8]) -> Result<(), ProbeError> {
+    let mut parts = field.split(|byte| *byte == b':');
+    let label = parts.next().unwrap_or(b"");
+    let time = parts.next().unwrap_or(b"");
+    let bytes = match time {
+        b"blob" | b"bad" => Bytes::from_slice(alloc, label)?,
+        _ => commit_bytes(alloc, history, label, time, parts.next().unwrap_or(b""))?,
+    };
+    let kind = match time {
+        b"blob" => Kind::Blob,
+        _ => Kind::Commit,
+    };
+    let id = write_object(alloc, &mut history.store, kind, bytes.as_slice()).map_err(
+        |_| ProbeError::NoMemory,
+    )?;
+    history.labels.push((Vec::from_slice(alloc, label)?, id))?;
+    Ok(())
+}
+
+/// A commit whose message is its label, so that no two commits are one.
+fn commit_bytes(
+    alloc: Global,
+    history: &History,
+    label: &[u8],
+    time: &[u8],
+    parents: &[u8],
+) -> Result<Bytes, ProbeError> {
+    let seconds = signed_of(time).unwrap_or(0);
+    let mut ids = Vec::new(alloc);
+    for parent in parents.split(|byte| *byte == b',') {
+        if !parent.is_empty() {
+            ids.push(id_of(history, parent))?;
+        }
+    }
+    let commit = Commit {
+        tree: ObjectId::empty_tree(HashKind::Sha1),
+        parents: Ids::from_vec(ids),
+        author: signature(alloc, seconds)?,
+        committer: signature(alloc, seconds)?,
+        encoding: None,
+        message: Bytes::from_slice(alloc, label)?,
+        extra_headers: Headers::from_vec(Vec::new(alloc)),
+    };
+    Ok(commit.to_bytes(alloc)?)
+}
+
+fn signature(alloc: Global, seconds: i64) -> Result<Signature, ProbeError> {
+    Ok(Signature {
+        name: Bytes::from_slice(alloc, b"A")?,
+        email: Bytes::from_slice(alloc, b"a@x")?,
+        time: Time { seconds, offset: 0 },
+    })
+}
+
+fn push_item(
+    answer: &mut Vec<u8>,
+    history: &History,
+    item: Result<Info, WalkError>,
+) -> Result<(), ProbeError> {
+    match item {
+        Ok(info) => push_label(answer, history, &info.id),
+        Err(WalkError::Missing { .. }) => push_word(answer, "missing"),
+        Err(WalkError::NotACommit { id }) => push_named(answer, history, "not-a-commit", &id),
+        Err(WalkError::Decode { id }) => push_named(answer, history, "decode", &id),
+        Err(_) => Err(ProbeError::NoMemory),
+    }
+}
+
+fn push_named(
+    answer: &mut Vec<u8>,
+    history: &History,
+    word: &str,
+    id: &ObjectId,
+) -> Result<(), ProbeError> {
+    push_word(answer, word)?;
+    push_label(answer, history, id)
+}
+
+fn push_label(answer: &mut Vec<u8>, history: &History, id: &ObjectId) -> Result<(), ProbeError> {
+    for (label, known) in &history.labels {
+        if known == id {
+            return push_field(answer, label);
+        }
+    }
+    push_word(answer, "unknown")
+}
