@@ -47,24 +47,55 @@ fn sorting_of(field: &[u8]) -> Option<Sorting> {
     }
 }
 
+/// The ids that the words of a row name.
+#[derive(Drop)]
+struct Named {
+    tips: Ids,
+    hide: Ids,
+    boundary: Ids,
+    shallow: Ids,
+}
+
+fn named_in(alloc: Global, history: &History, fields: &[Vec<u8>]) -> Result<Named, ProbeError> {
+    let tips = ids_behind(alloc, history, fields, b"tips")?;
+    let hide = ids_behind(alloc, history, fields, b"hide")?;
+    let boundary = ids_behind(alloc, history, fields, b"boundary")?;
+    let shallow = ids_behind(alloc, history, fields, b"shallow")?;
+    Ok(Named {
+        tips,
+        hide,
+        boundary,
+        shallow,
+    })
+}
+
 fn walk(alloc: Global, sorting: Sorting, fields: &[Vec<u8>]) -> Result<Vec<u8>, ProbeError> {
     let history = history_of(alloc, fields)?;
-    let walk = Simple::new(
-        alloc,
-        ids_behind(alloc, &history, fields, b"tips")?,
-        &history.store,
-    )
-    .sorting(sorting)
-    .parents(parents_of(fields))
-    .hide(ids_behind(alloc, &history, fields, b"hide")?)
-    .boundary(ids_behind(alloc, &history, fields, b"boundary")?)
-    .shallow(ids_behind(alloc, &history, fields, b"shallow")?);
-    let mut answer = Vec::new(alloc);
-    for item in walk {
-        push_item(&mut answer, &history, item)?;
-    }
+    let named = named_in(alloc, &history, fields)?;
+    let mut answer = listed(alloc, &history, named, sorting, parents_of(fields))?;
     if answer.is_empty() {
         push_word(&mut answer, "none")?;
+    }
+    Ok(answer)
+}
+
+/// What the walk gives, item by item.
+fn listed(
+    alloc: Global,
+    history: &History,
+    named: Named,
+    sorting: Sorting,
+    parents: Parents,
+) -> Result<Vec<u8>, ProbeError> {
+    let walk = Simple::new(alloc, named.tips, &history.store)
+        .sorting(sorting)
+        .parents(parents)
+        .hide(named.hide)
+        .boundary(named.boundary)
+        .shallow(named.shallow);
+    let mut answer = Vec::new(alloc);
+    for item in walk {
+        push_item(&mut answer, history, item)?;
     }
     Ok(answer)
 }
