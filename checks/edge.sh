@@ -6,9 +6,13 @@ set -uo pipefail
 nothing=$scratch/nothing
 usage=$scratch/usage
 no_repository=$scratch/no-repository
+fault=$scratch/fault
 first=$top/examples/first-commit
 : >"$nothing"
 echo "not a repository" >"$no_repository"
+echo "store fault" >"$fault"
+mkdir "$scratch/other"
+: >"$scratch/other/file"
 
 # Where the program has to be built, `gx` tells of it on standard error, which is looked at below.
 "$top/gx" --version >/dev/null || exit 1
@@ -91,7 +95,7 @@ informs --version
 informs -h
 informs --help
 cp -- "$scratch/printed" "$usage"
-explains --memory --memory-sha256 apply --help --version
+explains --memory --memory-sha256 FOLDER sha256:FOLDER apply --help --version
 explains status 0 1 2 3 4 5 6 7 8 9
 
 rejects "no words" 6 "$usage"
@@ -103,18 +107,30 @@ rejects "a word with a number" 6 "$usage" --memory generate 5
 rejects "--help after a store" 6 "$usage" --memory --help
 rejects "a word too many" 6 "$usage" --memory apply again
 rejects "a word that is not UTF-8" 6 "$usage" $'\xff' apply
-rejects "another store" 9 "$no_repository" nowhere apply
-rejects "no store" 9 "$no_repository" apply
+rejects "no store" 6 "$usage" apply
+rejects "a folder alone" 6 "$usage" "$scratch/absent"
+rejects "a folder with another word" 6 "$usage" "$scratch/absent" forget
+rejects "a folder with other files" 9 "$no_repository" "$scratch/other" apply
+rejects "a folder with other files, for SHA-256" 9 "$no_repository" "sha256:$scratch/other" apply
+rejects "an unknown option for the store" 9 "$no_repository" --memroy apply
 rejects "an empty word for the store" 9 "$no_repository" "" apply
+rejects "an empty folder name" 9 "$no_repository" sha256: apply
+rejects "a file for the folder" 7 "$fault" "$scratch/other/file" apply
 rejects "a word after --help" 9 "$no_repository" --help apply
 rejects "a word after -h" 9 "$no_repository" -h apply
 rejects "a word after --version" 9 "$no_repository" --version apply
+
+if [[ -e $scratch/absent || -n $(find "$scratch/other" -mindepth 1 ! -name file) ]]; then
+    fails "a folder was made, or changed, for words that were refused"
+else
+    passes "no folder is made or changed for words that are refused"
+fi
 
 unheard() {
     "$top/gx" "$@" <"$first.script" 2>&-
 }
 runs "no words, with standard error closed," 6 "$nothing" unheard
-runs "another store, with standard error closed," 9 "$nothing" unheard nowhere apply
+runs "another folder, with standard error closed," 9 "$nothing" unheard "$scratch/other" apply
 
 applies "the empty script" 0 "$nothing" "$nothing"
 head -n 4 -- "$first.script" >"$scratch/cut"

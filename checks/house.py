@@ -98,14 +98,14 @@ class Crate:
             name: {field for public, field in FIELD.findall(body) if public != "pub "} for name, body in STRUCT.findall(text)
         }
 
-    def exports(self, root):
+    def exports(self, root, folder=""):
         names = set()
         for path, several in EXPORT.findall(root):
             for item in several.split(",") if several else [path.split("::")[-1]]:
                 names.add(item.split(" as ")[-1].strip())
         for module in re.findall(r"^pub mod (\w+);", root, re.M):
-            text = self.sources.get(f"crates/{self.name}/src/{module}.rt", "")
-            names.update(PUBLIC_ITEM.findall(text), self.exports(text))
+            text = self.sources.get(f"crates/{self.name}/src/{folder}{module}.rt", "")
+            names.update(PUBLIC_ITEM.findall(text), self.exports(text, f"{folder}{module}/"))
         return names
 
 

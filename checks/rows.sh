@@ -7,10 +7,11 @@ set -uo pipefail
 # answer FILE: prints the rows of the file, with what the program of its subject answers.
 answer() {
     case ${1##*/} in
-    chains.rows | directories.rows | editors.rows | edits.rows | logs.rows | path_maps.rows | runs.rows | store.rows)
+    chains.rows | directories.rows | editors.rows | edits.rows | logs.rows | path_maps.rows | references.rows | runs.rows | \
+        store.rows)
         store_probe <"$1"
         ;;
-    walks.rows)
+    bases.rows | describe.rows | traversals.rows | walks.rows)
         walk_probe <"$1"
         ;;
     script-*)

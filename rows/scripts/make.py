@@ -48,6 +48,11 @@ def refused(reply, edits=(), reference="HEAD", parents="", **roles):
     return commit(None, reference, list(edits), reply, parents, **roles)
 
 
+def logged(name, *moves):
+    """A request for a log, in which each line tells of a move from one commit to another, with a message."""
+    return {"log": name, "moves": moves}
+
+
 FIRST = commit("first", MAIN, [put("hello", "hello world")])
 SECOND = commit("second", MAIN, [put("d/x")], "ok", "first", "c2\n")
 BEGIN = commit("begin", "HEAD", [put("a.b", "hello world"), put("a/x", "x\n")])
@@ -115,13 +120,24 @@ SCRIPTS = {
                    commit("beside", "refs/heads/ab", [], "ok", "empty", "c3\n"),
                    commit("deep", "refs/tags/v/1", [], message="c4\n"),
                    refused("conflict refs/tags/v refs/tags/v/1", reference="refs/tags/v")],
+    "logs": [logged("HEAD"), FIRST, logged(MAIN, (None, "first", "commit (initial): c1")), logged("HEAD"),
+             commit("next", "HEAD", [put("d/x")], "ok", "first", "two words\n\nand a body\n",
+                    committer={"offset": -12630, "name": "\u00d8 B", "email": ""}.items()),
+             logged("HEAD", ("first", "next", "commit: two words")),
+             logged(MAIN, (None, "first", "commit (initial): c1"), ("first", "next", "commit: two words")),
+             commit("merged", MAIN, [], "ok", "next first", "m\n"),
+             logged(MAIN, (None, "first", "commit (initial): c1"), ("first", "next", "commit: two words"),
+                    ("next", "merged", "commit (merge): m")),
+             logged("HEAD", ("first", "next", "commit: two words")),
+             commit("tagged", "refs/tags/v", [], message="c4\n"), logged("refs/tags/v"),
+             refused("must-not-exist refs/tags/v {tagged}", reference="refs/tags/v"), logged("refs/heads/none")],
     "unsupported": [FIRST, {"text": """identity 1 0 A\ta@x
 tag v1 {first} commit\ntagger 1 0 A\ta@x\nmessage 2\nv1\nend
 ref refs/heads/new {first} absent\ncommitter 1 0 A\ta@x\nmessage 2\nr1\nend
-delete refs/heads/main any\nrefs\nrefs refs/heads/\nlog refs/heads/main\npaths {first}\nwalk newest {first}
+delete refs/heads/main any\nrefs\nrefs refs/heads/\npaths {first}\nwalk newest {first}
 bases {first} {first}\noctopus {first} {first}\ndescribe all-refs 10 {first}
 note-set review {first} 2\nn1\nnote-drop review {first}\nnote-get {first}\nhead\nnamespace a/b\n""",
-                            "replies": ["unsupported"] * 17}, SECOND],
+                            "replies": ["unsupported"] * 16}, SECOND],
     "cut": [bad(ON_HEAD + "message 10\nc2\n", "truncated 6")],
     "cut-behind": [FIRST, bad(ON_HEAD + "message 10\nc2\n", "truncated 15")],
     "between": [FIRST, bad("\n" + ON_HEAD + "message 3\nc2\n\nend\n", "malformed 10")],
@@ -140,6 +156,8 @@ class Maker:
                     "root": repository.tree(repository.empty_tree, (), [self.edit(FIRST["edits"][0])])[0].decode(),
                     "other": "0" * {"sha1": 64, "sha256": 40}[repository.kind]}
         self.trees = {}
+        self.committers = {}
+        self.logs = 0
 
     def tree_of_x(self, blob):
         return self.repository.git("mktree", "--missing", feed=f"100644 blob {blob}\tx\n".encode()).decode()
@@ -165,10 +183,29 @@ class Maker:
             made = self.repository.git("hash-object", "-w", "-t", "commit", "--stdin",
                                        feed=head[:-5] + written + sep + rest + b"\n")
         self.ids[request["as"]], self.trees[request["as"]] = made.decode(), (tree, paths)
+        self.committers[request["as"]] = request["committer"]
         return made
+
+    def log_of(self, moves):
+        """The lines of a log, as `git update-ref` writes them."""
+        self.logs += 1
+        name = f"refs/heads/log-{self.logs}"
+        if moves[0][0]:
+            self.repository.git("update-ref", name, self.ids[moves[0][0]])
+        for old, new, message in moves:
+            who = self.committers[new]
+            env = {"GIT_COMMITTER_NAME": who["name"], "GIT_COMMITTER_EMAIL": who["email"],
+                   "GIT_COMMITTER_DATE": f"@{who['seconds']} {zone(who['offset'])}"}
+            self.repository.git("update-ref", "--create-reflog", "-m", message, name, self.ids[new],
+                                self.ids[old] if old else self.repository.null_id().decode(), env=env.items())
+        with open(os.path.join(self.repository.folder, "logs", name), encoding="utf-8") as file:
+            return file.read().splitlines()
 
     def request(self, request):
         """The text of a request, and its replies."""
+        if "log" in request:
+            lines = ["log " + line for line in self.log_of(request["moves"])] if request["moves"] else []
+            return f"log {request['log']}\n".encode(), lines + [f"ok {len(lines)}" if lines else "ok none"]
         if "text" in request:
             return request["text"].format(**self.ids).encode(), ["no " + reply for reply in request["replies"]]
         parents = [self.ids[parent].encode() for parent in request["parents"]]

@@ -1,5 +1,5 @@
 -- How the base of a commit is found or refused.
-use Rattle.std.proofs.Common.{◌≡◌, ◌∙◌, sym, ap, refl, subst, List, [], ◌∷◌, ℕ, Option, Some, IfSome, drop, Result, Ok, Err, IfOk, IfErr, inl, inr}
+use Rattle.std.proofs.Common.{◌≡◌, ◌∙◌, sym, ap, refl, subst, List, [], ◌∷◌, ℕ, Option, Some, None, IfSome, drop, Result, Ok, Err, IfOk, IfErr, inl, inr}
 use Rattle.std.specs.Prelude.{MatchResult, slice_get}
 use Rattle.gx_hash.specs.declared.kind.HashKind.{HashKind}
 use Rattle.gx_hash.specs.declared.oid.ObjectId.{ObjectId}
@@ -10,7 +10,10 @@ use Rattle.gx_object.specs.declared.commit.decode.CommitRef.{CommitRef}
 use Rattle.gx_object.specs.declared.decode.DecodeError.{DecodeError}
 use Rattle.gx_object.specs.declared.decode.DecodeError.TheVariants as decode
 use Rattle.gx_object.specs.declared.tree.Entry.{Entry}
-use Rattle.gx_object.specs.declared.tree.Tree.{Tree}
+use Rattle.gx_edit.specs.OpenTree.{LoadCauses}
+use Rattle.gx_edit.specs.StoredTree.{TellsEntries}
+use Rattle.gx_edit.specs.declared.error.EditError.{EditError}
+use Rattle.gx_edit.specs.declared.error.EditError.TheVariants as edit_error
 use Rattle.gx_object.specs.CommitSpelling.{CommitText, commit_text, SpellsCommit}
 use Rattle.gx_store.specs.Content.{Content, lookup}
 use Rattle.gx_store.specs.State.{StoreState, IsUnreadable}
@@ -23,7 +26,8 @@ use Rattle.gix.specs.CommitRequest.{CommitRequest}
 use Rattle.gix.specs.View.{view_of}
 use Rattle.gix.specs.Base.{HasTree, IsBaseTree, OfFirst}
 use Rattle.gix.specs.Causes.{IsReadAs, IsAbsent, IsOther, IsBad, SpellsNone}
-use Rattle.gix.specs.Stages.{ReadCauses, StageCauses, IsStoredTree}
+use Rattle.gix.specs.Lifting.{lifted, HasPlace}
+use Rattle.gix.specs.Stages.{ReadCauses, StageCauses}
 use Rattle.gix.proofs.Told.{told_with, told_both}
 
 -- ---- one object
@@ -69,11 +73,41 @@ read_refused settings r s wanted id read (error.NameConflict name other) c = abs
 read_refused settings r s wanted id read (error.Store fault) c = subst (λ f. StageCauses settings r s (error.Store f)) (sym c.0) (c.1, inl (wanted, read))
 read_refused settings r s wanted id read error.NoMemory c = tt
 
+-- what keeps a tree from being loaded, as it is handed on
+pub has_place : (s : StoreState) (id : ObjectId) (e : EditError) → LoadCauses s id e → HasPlace e
+has_place s id edit_error.EmptyPathComponent c = absurd c
+has_place s id edit_error.IsTree c = absurd c
+has_place s id (edit_error.FindExistingObject named) c = tt
+has_place s id (edit_error.ObjectKind named actual) c = tt
+has_place s id (edit_error.Decode named) c = tt
+has_place s id (edit_error.InvalidFilename filename k named source) c = tt
+has_place s id (edit_error.MissingObject filename k named) c = tt
+has_place s id (edit_error.WriteObject field) c = tt
+has_place s id (edit_error.Store fault) c = tt
+has_place s id edit_error.NoMemory c = tt
+
+as_read : (s : StoreState) (id : ObjectId) (e : EditError) → LoadCauses s id e → ReadCauses s kind.Tree id (lifted e)
+as_read s id edit_error.EmptyPathComponent c = absurd c
+as_read s id edit_error.IsTree c = absurd c
+as_read s id (edit_error.FindExistingObject named) c = c
+as_read s id (edit_error.ObjectKind named actual) c = c
+as_read s id (edit_error.Decode named) c = c
+as_read s id (edit_error.InvalidFilename filename k named source) c = absurd c
+as_read s id (edit_error.MissingObject filename k named) c = absurd c
+as_read s id (edit_error.WriteObject field) c = absurd c
+as_read s id (edit_error.Store fault) c = c
+as_read s id edit_error.NoMemory c = tt
+
 -- ---- the first parent
 
 pub first_is : (xs : List ObjectId) (x : ObjectId) → Some x ≡ slice_get xs 0 → xs ≡ x ∷ drop 1 xs
 first_is [] x h = cc
 first_is (y ∷ ys) x h = ap (λ z. z ∷ ys) (let same : x ≡ y = cc in sym same)
+
+-- without a parent the base has no entries
+pub no_parent : (s : StoreState) (parents : List ObjectId) (entries : List Entry) → None ≡ slice_get parents 0 → entries ≡ [] → IsBaseTree (view_of s) parents entries
+no_parent s [] entries none empty = empty
+no_parent s (parent ∷ parents) entries none empty = let no : ◌≡◌ {A = Option ObjectId} None (Some parent) = none in cc
 
 module _ (settings : Settings) (r : CommitRequest) (s : StoreState) (parent : ObjectId) (is : r.parents ≡ parent ∷ drop 1 r.parents) where
   first : (P : ObjectId → Type 0) → P parent → OfFirst r.parents P
@@ -83,14 +117,11 @@ module _ (settings : Settings) (r : CommitRequest) (s : StoreState) (parent : Ob
   pub parent_refused : (e : CommitEditsError) → ReadCauses s kind.Commit parent e → StageCauses settings r s e
   parent_refused e c = read_refused settings r s kind.Commit parent (first (λ p. parent ≡ p) refl) e c
 
-  module _ (tree : ObjectId) (has : IfSome s.content (λ content. HasTree s.hash content parent tree)) where
-    -- and its tree as a tree
-    pub root_refused : (result : Result Tree CommitEditsError) → IfErr result (ReadCauses s kind.Tree tree) → IfErr result (StageCauses settings r s)
-    root_refused (Ok root) c = tt
-    root_refused (Err e) c = read_refused settings r s kind.Tree tree (inl (first (λ p. IfSome s.content (λ content. HasTree s.hash content p tree)) has)) e c
+  -- and its tree as a tree
+  pub root_refused : (tree : ObjectId) → IfSome s.content (λ content. HasTree s.hash content parent tree) → (e : EditError) → LoadCauses s tree e → StageCauses settings r s (lifted e)
+  root_refused tree has e c = read_refused settings r s kind.Tree tree (inl (first (λ p. IfSome s.content (λ content. HasTree s.hash content p tree)) has)) (lifted e) (as_read s tree e c)
 
-pub root_found : (r : CommitRequest) (s : StoreState) (parent tree : ObjectId) → r.parents ≡ parent ∷ drop 1 r.parents → IfSome s.content (λ content. HasTree s.hash content parent tree)
-    → (result : Result Tree CommitEditsError) → IfOk result (λ root. IsStoredTree s tree root.entries) → IfOk result (λ root. IsBaseTree (view_of s) r.parents root.entries)
-root_found r s parent tree is has (Ok root) found = subst (λ ps. IsBaseTree (view_of s) ps root.entries) (sym is)
-    (told_both s.content (λ content h at. record { tree = tree; has_tree = h; bytes = at.0; stored = at.1; spelled = at.2 }) has found)
-root_found r s parent tree is has (Err e) found = tt
+pub root_found : (r : CommitRequest) (s : StoreState) (parent tree : ObjectId) (entries : List Entry) → r.parents ≡ parent ∷ drop 1 r.parents → IfSome s.content (λ content. HasTree s.hash content parent tree)
+    → TellsEntries s tree entries → IsBaseTree (view_of s) r.parents entries
+root_found r s parent tree entries is has found = subst (λ ps. IsBaseTree (view_of s) ps entries) (sym is)
+    (told_both s.content (λ content h at. record { tree = tree; has_tree = h; has = at }) has found)

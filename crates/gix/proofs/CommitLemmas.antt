@@ -40,7 +40,7 @@ module _ (settings : Settings) (r : CommitRequest) (s t u : StoreState) (plan : 
     way = p.way;
     admitted = p.admitted;
     changes = changes;
-    moves = subst (λ i. Moves s.hash r s.references p.way i changes) p.objects.is_id (subst (Moves s.hash r s.references p.way plan.objects.id) (sym is) p.moves);
+    moves = subst (λ i. Moves settings s.hash r s.references p.way i changes) p.objects.is_id (subst (Moves settings s.hash r s.references p.way plan.objects.id) (sym is) p.moves);
     stored = t;
     becomes = written;
     torn = f.1;
@@ -53,6 +53,6 @@ module _ (settings : Settings) (r : CommitRequest) (s t u : StoreState) (plan : 
     admitted = p.admitted;
     is_id = p.objects.is_id;
     changes = changes;
-    moves = subst (Moves s.hash r s.references p.way plan.objects.id) (sym is) p.moves;
+    moves = subst (Moves settings s.hash r s.references p.way plan.objects.id) (sym is) p.moves;
     becomes = applied_then changes (all_stored (written_objects r plan.objects.trees) s) t u written b;
   }

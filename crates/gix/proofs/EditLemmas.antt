@@ -20,7 +20,8 @@ use Rattle.gx_edit.specs.PathMap.{blob_id, blobs_in, blobs_of, file_mode, path_o
 use Rattle.gx_edit.specs.Editor.{hash_of, view_of as directories_of, upserted_entry}
 use Rattle.gx_edit.specs.EditorCauses.{IsOnWay, LoadsAll, EditCauses}
 use Rattle.gx_edit.specs.View as directories
-use Rattle.gx_edit.specs.View.{Names, IsLoad, IsReadable, only, names_of, upserted}
+use Rattle.gx_edit.specs.View.{Names, IsLoad, only, names_of, upserted}
+use Rattle.gx_edit.specs.StoredTree.{IsReadable}
 use Rattle.gx_edit.specs.ViewOfEdits.{view_with, edited_view, PutsOwnId}
 use Rattle.gx_edit.specs.declared.editor.Editor.{Editor}
 use Rattle.gx_edit.specs.declared.editor.item.Item.{Item}

@@ -1,3 +1,4 @@
+mod AskingLemmas
 mod BaseLemmas
 mod CommitLemmas
 mod EditLemmas
@@ -15,6 +16,7 @@ mod ReferenceLemmas
 mod StandingLemmas
 mod StepLemmas
 mod Told
+mod TreeEditorLemmas
 mod TreeLemmas
 mod ValidLemmas
 mod WriteLemmas

@@ -1,5 +1,5 @@
 -- What a commit of edits is to the repository machine.
-use Rattle.std.proofs.Common.{◌≡◌, sym, refl, subst, List, [], ◌∷◌, ◌++◌, ℕ, Option, Some, None, IfSome, Result, Ok, Err, IfOk, IfErr}
+use Rattle.std.proofs.Common.{◌≡◌, ◌∙◌, sym, ap, refl, subst, arith, false, true≢false, IsTrue, List, [], ◌∷◌, ℕ, Option, Some, None, IfSome, Result, Ok, Err, IfOk, IfErr}
 use Rattle.std.specs.Prelude.{option_map}
 use Rattle.gx_hash.specs.declared.kind.HashKind.{HashKind}
 use Rattle.gx_hash.specs.declared.oid.ObjectId.{ObjectId}
@@ -7,8 +7,12 @@ use Rattle.gx_object.specs.declared.kind.Kind.{Kind}
 use Rattle.gx_object.specs.declared.kind.Kind.TheVariants as kind
 use Rattle.gx_store.specs.Content.{Content, lookup, id_of, with_objects, HoldsAll, Adds, AreApart}
 use Rattle.gx_store.specs.Change.{refs_after}
-use Rattle.gx_store.specs.State.{RefState, StoreState}
+use Rattle.gx_store.specs.Faults.{Rose}
+use Rattle.gx_store.specs.State.{RefState, StoreState, Becomes}
 use Rattle.gx_store.specs.declared.change.RefChange.{RefChange}
+use Rattle.gx_store.specs.declared.error.StoreError.TheVariants as store_error
+use Rattle.gx_store.specs.declared.error.What.{What}
+use Rattle.gx_store.specs.declared.error.What.TheVariants as what
 use Rattle.gx_edit.specs.PathMap.{PathMap, edited, blobs_of}
 use Rattle.gx_edit.specs.CanonicalTree.{Directory, StandsFor, Represents}
 use Rattle.gx_edit.specs.Output.{Output}
@@ -23,9 +27,11 @@ use Rattle.gix.specs.Trees.{MayWrite, brought}
 use Rattle.gix.specs.LawsBelow.{LawsBelow}
 use Rattle.gix.specs.Reference.{Way, Moves}
 use Rattle.gix.specs.Admission.{IsAdmitted}
-use Rattle.gix.specs.Causes.{Cause, CommitEditsCauses}
+use Rattle.gix.specs.Causes.{Cause, CommitEditsCauses, HasFault, store_part}
 use Rattle.gix.specs.CommitEdits.{Commits, Leaves, commit_id, commit_text, written_objects}
-use Rattle.gix.specs.Machine.{state_of, state_told, BothTold, WhereTold, IsWrittenOf, Accepts, Refuses, IsRefusal}
+use Rattle.gix.specs.Held.{Held, state_of, state_told, BothTold, WhereTold}
+use Rattle.gix.specs.Meaning.{Means, Stays, IsLawful}
+use Rattle.gix.specs.Machine.{IsWrittenOf, Accepts, Refuses, commit_edits_meaning}
 use Rattle.gix.proofs.Lists.{all_before, all_behind}
 use Rattle.gix.proofs.StandingLemmas.{end_stands, end_directory}
 
@@ -65,7 +71,7 @@ module _ (laws : LawsBelow) (settings : Settings) (r : CommitRequest) (old : Sta
       (trees_held old.hash r output new (laws.added old.hash objects old.content new apart adds))
 
 accepted : (laws : LawsBelow) (settings : Settings) (r : CommitRequest) (hash : HashKind) (content : Content) (refs : RefState) (id : ObjectId) (output : Output) (way : Way) (changes : List RefChange) → IsAdmitted settings r (view hash (Some content) (Some refs)) output way
-    → id ≡ commit_id hash r output → Moves hash r (Some refs) way id changes
+    → id ≡ commit_id hash r output → Moves settings hash r (Some refs) way id changes
     → Accepts settings r (record { hash = hash; content = content; references = refs }) id (record { hash = hash; content = with_objects hash (written_objects r output) content; references = refs_after changes refs })
 accepted laws settings r hash content refs id output way changes admitted is_id moves =
     let objects : List (Kind × List ℕ) = written_objects r output in
@@ -86,7 +92,7 @@ accepted laws settings r hash content refs id output way changes admitted is_id 
 
 -- where the state is told
 accepted_told : (laws : LawsBelow) (settings : Settings) (r : CommitRequest) (hash : HashKind) (content : Option Content) (references : Option RefState) (id : ObjectId) (output : Output) (way : Way) (changes : List RefChange) → IsAdmitted settings r (view hash content references) output way
-    → id ≡ commit_id hash r output → Moves hash r references way id changes
+    → id ≡ commit_id hash r output → Moves settings hash r references way id changes
     → BothTold (λ old new. Accepts settings r old id new) (state_told hash content references) (state_told hash (option_map (with_objects hash (written_objects r output)) content) (option_map (refs_after changes) references))
 accepted_told laws settings r hash None references id output way changes admitted is_id moves = tt
 accepted_told laws settings r hash (Some content) None id output way changes admitted is_id moves = tt
@@ -108,32 +114,63 @@ refuses_told : (settings : Settings) (r : CommitRequest) (old new : StoreState) 
 refuses_told settings r old new e c same = subst (λ (s : StoreState). BothTold (λ before after. Refuses settings r before e after) (state_of old) (state_of s)) (sym same)
     (refused_told settings r old.hash old.content old.references e c)
 
-refuses_of : (settings : Settings) (r : CommitRequest) (old new : StoreState) (e : CommitEditsError) → CommitEditsCauses settings r old new e → Leaves settings r old new e → IsRefusal e → WhereTold (λ before after. Refuses settings r before e after) old new
-refuses_of settings r old new (error.Store fault) c l h = absurd h
-refuses_of settings r old new error.NoMemory c l h = absurd h
-refuses_of settings r old new (error.FindExistingObject id) c l h = refuses_told settings r old new (error.FindExistingObject id) c l
-refuses_of settings r old new (error.ObjectKind id actual) c l h = refuses_told settings r old new (error.ObjectKind id actual) c l
-refuses_of settings r old new (error.Decode id) c l h = refuses_told settings r old new (error.Decode id) c l
-refuses_of settings r old new (error.EmptyPathComponent path) c l h = refuses_told settings r old new (error.EmptyPathComponent path) c l
-refuses_of settings r old new (error.InvalidFilename filename k id source) c l h = refuses_told settings r old new (error.InvalidFilename filename k id source) c l
-refuses_of settings r old new (error.MissingObject filename k id) c l h = refuses_told settings r old new (error.MissingObject filename k id) c l
-refuses_of settings r old new (error.WriteObject field) c l h = refuses_told settings r old new (error.WriteObject field) c l
-refuses_of settings r old new (error.Cycle name) c l h = refuses_told settings r old new (error.Cycle name) c l
-refuses_of settings r old new (error.DepthLimitExceeded name) c l h = refuses_told settings r old new (error.DepthLimitExceeded name) c l
-refuses_of settings r old new (error.MustExist name) c l h = refuses_told settings r old new (error.MustExist name) c l
-refuses_of settings r old new (error.MustNotExist name actual) c l h = refuses_told settings r old new (error.MustNotExist name actual) c l
-refuses_of settings r old new (error.ReferenceOutOfDate name expected actual) c l h = refuses_told settings r old new (error.ReferenceOutOfDate name expected actual) c l
-refuses_of settings r old new (error.NameConflict name other) c l h = refuses_told settings r old new (error.NameConflict name other) c l
+refuses_of : (e : CommitEditsError) (settings : Settings) (r : CommitRequest) (old new : StoreState) → CommitEditsCauses settings r old new e → Leaves settings r old new e → store_part e ≡ None → WhereTold (λ before after. Refuses settings r before e after) old new
+refuses_of (error.Store fault) settings r old new c l h = cc
+refuses_of error.NoMemory settings r old new c l h = cc
+refuses_of e settings r old new c l h = refuses_told settings r old new e c l
 
 -- ---- of an answer
 
-pub accepts_where : (result : Result ObjectId CommitEditsError) (settings : Settings) (r : CommitRequest) (old new : StoreState)
+-- what is proved of a call is all that it means
+pub commit_means : (outcome : Result ObjectId CommitEditsError) (r : CommitRequest) (old new : Held)
     → ((settings : Settings) (r : CommitRequest) (old new : StoreState) (id : ObjectId) → Commits settings r old id new → WhereTold (λ before after. Accepts settings r before id after) old new)
-    → IfOk result (λ id. Commits settings r old id new) → IfOk result (λ id. WhereTold (λ before after. Accepts settings r before id after) old new)
-accepts_where (Ok id) settings r old new law c = law settings r old new id c
-accepts_where (Err e) settings r old new law c = tt
+    → IfOk outcome (λ id. Commits old.settings r old.store id new.store) → IfErr outcome (Leaves old.settings r old.store new.store) → IfErr outcome (CommitEditsCauses old.settings r old.store new.store)
+    → new.settings ≡ old.settings → Means (commit_edits_meaning r) old outcome new
+commit_means (Ok id) r old new law ok leaves causes same = record {
+  ok = ok;
+  settles = same;
+  leaves = tt;
+  causes = tt;
+  settings = tt;
+  accepts = law old.settings r old.store new.store id ok;
+  refuses = tt;
+}
+commit_means (Err e) r old new law ok leaves causes same = record {
+  ok = tt;
+  settles = tt;
+  leaves = leaves;
+  causes = causes;
+  settings = same;
+  accepts = tt;
+  refuses = refuses_of e old.settings r old.store new.store causes leaves;
+}
 
-pub refuses_where : (result : Result ObjectId CommitEditsError) (settings : Settings) (r : CommitRequest) (old new : StoreState) → IfErr result (Leaves settings r old new) → IfErr result (CommitEditsCauses settings r old new)
-    → IfErr result (λ e. IsRefusal e → WhereTold (λ before after. Refuses settings r before e after) old new)
-refuses_where (Ok id) settings r old new l c = tt
-refuses_where (Err e) settings r old new l c = λ h. refuses_of settings r old new e c l h
+-- ---- what holds of every call
+
+told_same : (e : CommitEditsError) (settings : Settings) (r : CommitRequest) (old new : StoreState) → store_part e ≡ None → Leaves settings r old new e → new ≡ old
+told_same (error.Store fault) settings r old new none left = cc
+told_same error.NoMemory settings r old new none left = cc
+told_same e settings r old new none left = left
+
+untrue : (part : What) (old : StoreState) → ((part : What) → old.unreadable part ≡ false) → IsTrue (old.unreadable part) → ⊥
+untrue part old readable h = true≢false (sym h ∙ readable part)
+
+-- a store of which all can be read faults only where its count rises
+fault_rises : (fault : What) (settings : Settings) (r : CommitRequest) (old new : StoreState) → ((part : What) → old.unreadable part ≡ false) → HasFault settings r old new fault → Rose old.faults new.faults
+fault_rises what.Write settings r old new readable h = h
+fault_rises what.Index settings r old new readable h = absurd h
+fault_rises part settings r old new readable h = absurd (untrue part old readable h.0)
+
+cause_rises : (e : CommitEditsError) (settings : Settings) (r : CommitRequest) (old new : StoreState) (fault : What) → ((part : What) → old.unreadable part ≡ false) → store_part e ≡ Some (store_error.Fault fault) → CommitEditsCauses settings r old new e → Rose old.faults new.faults
+cause_rises (error.Store of) settings r old new fault readable is c = fault_rises of settings r old new readable c
+cause_rises e settings r old new fault readable is c = cc
+
+stays_becoming : (old wanted new : StoreState) → wanted.unreadable ≡ old.unreadable → wanted.faults ≡ old.faults → Becomes wanted new → Stays old new
+stays_becoming old wanted new parts faults b = record { parts = ap (λ (s : StoreState). s.unreadable) b.same ∙ parts; later = omega (arith, b.later, faults) }
+
+pub commit_lawful : (r : CommitRequest) → IsLawful (commit_edits_meaning r)
+commit_lawful r = record {
+  same = λ settings old new e none left. told_same e settings r old new none left;
+  stays = λ settings old new id made. stays_becoming old _ new refl refl made.becomes;
+  rises = λ settings old new e fault readable is c. cause_rises e settings r old new fault readable is c;
+}

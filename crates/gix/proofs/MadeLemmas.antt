@@ -1,5 +1,5 @@
 -- A valid request has no cause to be refused, and where the store has no fault it is made, but for lack of memory.
-use Rattle.std.proofs.Common.{◌≡◌, ◌∙◌, sym, ap, refl, subst, List, [], ◌∷◌, ℕ, Bool, true≢false, inl, inr}
+use Rattle.std.proofs.Common.{◌≡◌, ◌∙◌, sym, ap, refl, subst, List, [], ◌∷◌, true≢false, inl, inr}
 use Rattle.gx_hash.specs.declared.oid.ObjectId.{ObjectId}
 use Rattle.gx_object.specs.declared.encode.Field.{Field}
 use Rattle.gx_object.specs.declared.encode.Field.TheVariants as field
@@ -114,18 +114,6 @@ made laws settings r state old new e same quiet v c = go e c
     never e c = never_refused laws settings r state v e (subst (λ w. Cause settings r w e) same c)
 
     go : (e : CommitEditsError) → CommitEditsCauses settings r old new e → e ≡ error.NoMemory
-    go (error.FindExistingObject id) c = absurd (never (error.FindExistingObject id) c)
-    go (error.ObjectKind id actual) c = absurd (never (error.ObjectKind id actual) c)
-    go (error.Decode id) c = absurd (never (error.Decode id) c)
-    go (error.EmptyPathComponent path) c = absurd (never (error.EmptyPathComponent path) c)
-    go (error.InvalidFilename filename entry_kind id source) c = absurd (never (error.InvalidFilename filename entry_kind id source) c)
-    go (error.MissingObject filename entry_kind id) c = absurd (never (error.MissingObject filename entry_kind id) c)
-    go (error.WriteObject part) c = absurd (never (error.WriteObject part) c)
-    go (error.Cycle name) c = absurd (never (error.Cycle name) c)
-    go (error.DepthLimitExceeded name) c = absurd (never (error.DepthLimitExceeded name) c)
-    go (error.MustExist name) c = absurd (never (error.MustExist name) c)
-    go (error.MustNotExist name actual) c = absurd (never (error.MustNotExist name actual) c)
-    go (error.ReferenceOutOfDate name expected actual) c = absurd (never (error.ReferenceOutOfDate name expected actual) c)
-    go (error.NameConflict name other) c = absurd (never (error.NameConflict name other) c)
     go (error.Store fault) c = absurd (no_fault settings r old new quiet fault c)
     go error.NoMemory c = refl
+    go e c = absurd (never e c)

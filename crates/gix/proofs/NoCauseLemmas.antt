@@ -83,7 +83,7 @@ root_known : (state : State) (parents : List ObjectId) (entries : List Entry) (i
 root_known state [] entries id is read = absurd read
 root_known state (parent ∷ parents) entries id is read =
     let same : id ≡ is.tree = one_tree state.hash state.content parent id is.tree read is.has_tree in
-    record { bytes = is.bytes; stored = ap (lookup state.content) same ∙ is.stored; spelled = λ none. none entries is.spelled }
+    record { bytes = is.has.bytes; stored = ap (lookup state.content) same ∙ is.has.stored; spelled = λ none. none entries is.has.spelled }
 
 -- what a request reads is known where its base is, and what its edits load
 pub known_of : (r : CommitRequest) (state : State) (entries : List Entry) → IsBaseTree (whole state) r.parents entries → ((id : ObjectId) → IsLoadedBy (whole state) (only (names_of entries)) r.edits id → IsKnown state id kind.Tree)
@@ -192,7 +192,7 @@ module _ (laws : LawsBelow) (settings : Settings) (r : CommitRequest) (state : S
 
   known : (id : ObjectId) (wanted : Kind) → IsReadAs r (whole state) id wanted → IsKnown state id wanted
   known = known_of r state a.objects.trees.makes.edits.entries a.objects.trees.makes.edits.is_base
-      (λ id loaded. let at = a.objects.trees.makes.edits.read id loaded in record { bytes = at.bytes; stored = at.stored; spelled = λ none. none at.entries at.spelled })
+      (λ id loaded. let at = a.objects.trees.makes.edits.read id loaded in record { bytes = at.has.bytes; stored = at.has.stored; spelled = λ none. none at.entries at.has.spelled })
 
   not_part : (part : Field) → are_writable r.author r.committer part ≡ false → ⊥
   not_part part none = true≢false (sym (parts_are_writable r a.objects.identities part) ∙ none)

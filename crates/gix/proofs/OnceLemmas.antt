@@ -24,7 +24,7 @@ use Rattle.gx_refs.specs.Laws.Fate.{Ending}
 use Rattle.gx_refs.specs.Laws.{MeetsOne}
 use Rattle.gix.specs.CommitRequest.{CommitRequest}
 use Rattle.gix.specs.View.{State, whole}
-use Rattle.gix.specs.Base.{HasTree, HasEntries, IsMapOf, IsBaseTree, IsBase}
+use Rattle.gix.specs.Base.{HasTree, HasRoot, IsMapOf, IsBaseTree, IsBase}
 use Rattle.gix.specs.Trees.{EditsView}
 use Rattle.gix.specs.LawsBelow.{MapIsUnique}
 use Rattle.gix.proofs.ReferenceLemmas.{one_last}
@@ -49,11 +49,11 @@ module _ (hash : HashKind) (content : Content) where
       let text : a.text ≡ b.text = one_commit hash b.bytes a.text b.text (subst (λ x. SpellsCommit hash x a.text) bytes a.spelled) b.spelled in
       one_answer tree other (sym a.named ∙ ap (λ (t : CommitText). id_from_hex t.tree) text ∙ b.named)
 
-  one_list : (commit : ObjectId) (es fs : List Entry) → HasEntries hash content commit es → HasEntries hash content commit fs → es ≡ fs
+  one_list : (commit : ObjectId) (es fs : List Entry) → HasRoot hash content commit es → HasRoot hash content commit fs → es ≡ fs
   one_list commit es fs a b =
       let tree : a.tree ≡ b.tree = one_tree commit a.tree b.tree a.has_tree b.has_tree in
-      let bytes : a.bytes ≡ b.bytes = one_text kind.Tree kind.Tree a.bytes b.bytes (sym a.stored ∙ ap (lookup content) tree ∙ b.stored) in
-      tree_once hash b.bytes es fs (subst (λ x. SpellsTree hash x es) bytes a.spelled) b.spelled
+      let bytes : a.has.bytes ≡ b.has.bytes = one_text kind.Tree kind.Tree a.has.bytes b.has.bytes (sym a.has.stored ∙ ap (lookup content) tree ∙ b.has.stored) in
+      tree_once hash b.has.bytes es fs (subst (λ x. SpellsTree hash x es) bytes a.has.spelled) b.has.spelled
 
   pub one_map : (unique : MapIsUnique) (commit : ObjectId) (m n : PathMap) → IsMapOf hash content commit m → IsMapOf hash content commit n → m ≡ n
   one_map unique commit m n a b =

@@ -17,7 +17,6 @@ use Rattle.std.specs.Cmp.Lexicographic.{bytes_decides}
 use Rattle.gx_refs.specs.Chain.{is_among, AreDistinct, IsPath, EndsIn, IsOnChain}
 use Rattle.gx_refs.specs.Log.{log_line}
 use Rattle.gx_refs.specs.Moving.{previous_id, moved, MovesAlong, IsFaultAt}
-use Rattle.gx_refs.specs.declared.log.WriteReflog.TheVariants.{Normal}
 use Rattle.gx_refs.specs.declared.resolving.Chain.{Chain}
 use Rattle.gix.specs.declared.settings.Settings.{Settings}
 use Rattle.gix.specs.declared.error.CommitEditsError.TheVariants as error
@@ -100,7 +99,7 @@ on_chain targets given end name names found among e =
       },
     )
 
-pub move_refused : (settings : Settings) (r : CommitRequest) (s : StoreState) → IsStorable settings r (view_of s) → (chain : Chain) → IsMovable r s chain → (e : StoreError) → OfFault e (IsFaultAt s Normal chain.names) → StageCauses settings r s (handed_on e)
+pub move_refused : (settings : Settings) (r : CommitRequest) (s : StoreState) → IsStorable settings r (view_of s) → (chain : Chain) → IsMovable r s chain → (e : StoreError) → OfFault e (IsFaultAt s settings.log_mode chain.names) → StageCauses settings r s (handed_on e)
 move_refused settings r s ready chain m store_error.NoMemory f = tt
 move_refused settings r s ready chain m (store_error.Fault fault) f =
     subst (λ w. StageCauses settings r s (error.Store w)) (sym f.2.1.0) (f.2.1.1, ready, told_with s.references (λ refs e. on_chain refs.targets r.reference m.end f.0 chain.names chain.target f.1 e) m.may.ends)
@@ -108,16 +107,16 @@ move_refused settings r s ready chain m (store_error.Fault fault) f =
 -- ---- the plan
 
 pub planned : (settings : Settings) (r : CommitRequest) (s : StoreState) (plan : Plan) → AreStorable settings r s plan.objects → (chain : Chain) → IsMovable r s chain → (text : List ℕ) → text ≡ commit_log_message r.parents r.message
-    → MovesAlong Normal chain.names plan.objects.id (log_line (previous_id s.hash chain.target) plan.objects.id r.committer text) plan.changes.items
-    → ((before : List (List ℕ)) (end : List ℕ) → chain.names ≡ before ++ end ∷ [] → IfSome s.references (λ refs. refs_after plan.changes.items refs ≡ moved Normal chain.names end plan.objects.id (log_line (previous_id s.hash chain.target) plan.objects.id r.committer text) refs))
+    → MovesAlong settings.log_mode chain.names plan.objects.id (log_line (previous_id s.hash chain.target) plan.objects.id r.committer text) plan.changes.items
+    → ((before : List (List ℕ)) (end : List ℕ) → chain.names ≡ before ++ end ∷ [] → IfSome s.references (λ refs. refs_after plan.changes.items refs ≡ moved settings.log_mode chain.names end plan.objects.id (log_line (previous_id s.hash chain.target) plan.objects.id r.committer text) refs))
     → (AreDistinct chain.names → HaveDistinctNames plan.changes.items) → AreChangesOfKind s.hash plan.changes.items → IsPlan settings r s plan
 planned settings r s plan o chain m text is along moves distinct kinds = record {
   way = record { names = chain.names; end = m.end; found = chain.target };
   admitted = record { objects = o.may; reference = m.may };
   objects = o.are;
   moves = record {
-    along = subst (λ words. MovesAlong Normal chain.names plan.objects.id (log_line (previous_id s.hash chain.target) plan.objects.id r.committer words) plan.changes.items) is along;
-    moved = subst (λ words. IfSome s.references (λ refs. refs_after plan.changes.items refs ≡ moved Normal chain.names m.end plan.objects.id (log_line (previous_id s.hash chain.target) plan.objects.id r.committer words) refs)) is (moves m.may.before m.end m.may.last);
+    along = subst (λ words. MovesAlong settings.log_mode chain.names plan.objects.id (log_line (previous_id s.hash chain.target) plan.objects.id r.committer words) plan.changes.items) is along;
+    moved = subst (λ words. IfSome s.references (λ refs. refs_after plan.changes.items refs ≡ moved settings.log_mode chain.names m.end plan.objects.id (log_line (previous_id s.hash chain.target) plan.objects.id r.committer words) refs)) is (moves m.may.before m.end m.may.last);
   };
   names = distinct m.may.chain.distinct;
   kinds = kinds;

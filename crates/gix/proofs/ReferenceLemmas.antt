@@ -6,8 +6,8 @@ use Rattle.gx_store.specs.State.{RefState, StoreState}
 use Rattle.gx_store.specs.declared.error.What.TheVariants as what
 use Rattle.gx_store.specs.declared.target.Target.{Target}
 use Rattle.gx_refs.specs.Chain.{IsChain, IsEnd, EndsIn, ChainCauses}
-use Rattle.gx_refs.specs.declared.error.RefError.{RefError}
-use Rattle.gx_refs.specs.declared.error.RefError.TheVariants as ref_error
+use Rattle.gx_refs.specs.declared.chain_error.ChainError.{ChainError}
+use Rattle.gx_refs.specs.declared.chain_error.ChainError.TheVariants as chain_error
 use Rattle.gx_refs.specs.declared.resolving.Chain.{Chain}
 use Rattle.gix.specs.declared.settings.Settings.{Settings}
 use Rattle.gix.specs.declared.error.CommitEditsError.{CommitEditsError}
@@ -50,15 +50,15 @@ movable r s chain before end last is_chain stops ends kind allowed free = record
 -- ---- refusals
 
 module _ (settings : Settings) (r : CommitRequest) (s : StoreState) (ready : IsStorable settings r (view_of s)) where
-  pub chain_refused : (e : RefError) → ChainCauses s r.reference e → StageCauses settings r s (of_chain e)
-  chain_refused (ref_error.Cycle name) c = (ready, c.0, c.1)
-  chain_refused (ref_error.DepthLimitExceeded name) c = (ready, c.0, c.1)
-  chain_refused (ref_error.Store (what.Name name)) c = (c.0, ready, c.1)
-  chain_refused (ref_error.Store (what.Object id)) c = absurd c
-  chain_refused (ref_error.Store what.Index) c = absurd c
-  chain_refused (ref_error.Store what.Listing) c = absurd c
-  chain_refused (ref_error.Store what.Write) c = absurd c
-  chain_refused ref_error.NoMemory c = tt
+  pub chain_refused : (e : ChainError) → ChainCauses s r.reference e → StageCauses settings r s (of_chain e)
+  chain_refused (chain_error.Cycle name) c = (ready, c.0, c.1)
+  chain_refused (chain_error.DepthLimitExceeded name) c = (ready, c.0, c.1)
+  chain_refused (chain_error.Store (what.Name name)) c = (c.0, ready, c.1)
+  chain_refused (chain_error.Store (what.Object id)) c = absurd c
+  chain_refused (chain_error.Store what.Index) c = absurd c
+  chain_refused (chain_error.Store what.Listing) c = absurd c
+  chain_refused (chain_error.Store what.Write) c = absurd c
+  chain_refused chain_error.NoMemory c = tt
 
   ends_at : (names : List (List ℕ)) (end name : List ℕ) (found actual : Option Target) → name ≡ end → found ≡ actual → IfSome s.references (λ refs. EndsIn refs.targets r.reference names end found) → EndsAt r (view_of s) name actual
   ends_at names end name found actual named is ends = told_with s.references (λ refs e. (names, subst (λ o. EndsIn refs.targets r.reference names name o) is (subst (λ n. EndsIn refs.targets r.reference names n found) (sym named) e))) ends

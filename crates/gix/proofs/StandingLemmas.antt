@@ -16,7 +16,7 @@ use Rattle.gx_edit.specs.declared.path_edit.PathEdit.{PathEdit}
 use Rattle.gix.specs.declared.settings.Settings.{Settings}
 use Rattle.gix.specs.CommitRequest.{CommitRequest}
 use Rattle.gix.specs.View.{State, whole}
-use Rattle.gix.specs.Base.{HasEntries, IsMapOf, IsBaseTree, IsBase}
+use Rattle.gix.specs.Base.{IsMapOf, IsBaseTree, IsBase}
 use Rattle.gix.specs.Trees.{EditsView, MayWrite, has_gap, have_names}
 use Rattle.gix.specs.LawsBelow.{LawsBelow}
 use Rattle.gix.proofs.OnceLemmas.{one_tree}
@@ -44,7 +44,7 @@ module _ (laws : LawsBelow) (r : CommitRequest) (state : State) (base : PathMap)
       (subst (λ es. StandsForMap state.hash state.content (only (names_of es)) no_paths) (sym is) (laws.empty state.hash state.content))
   root_stands (parent ∷ parents) entries is b =
       let same = one_tree state.hash state.content parent b.tree is.tree b.has_tree is.has_tree in
-      laws.read state.hash state.content is.tree is.bytes entries base is.stored is.spelled (subst (λ t. HasMap state.hash state.content t base) same b.has_map)
+      laws.read state.hash state.content is.tree entries base is.has (subst (λ t. HasMap state.hash state.content t base) same b.has_map)
 
   pub base_stands : (entries : List Entry) → IsBaseTree (whole state) r.parents entries → IsBase (whole state) r.parents base → StandsForMap state.hash state.content (only (names_of entries)) base
   base_stands entries is b = root_stands r.parents entries is b

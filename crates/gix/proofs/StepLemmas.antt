@@ -19,7 +19,8 @@ use Rattle.gix.specs.LawsBelow.{LawsBelow}
 use Rattle.gix.specs.Reference.{Way}
 use Rattle.gix.specs.Admission.{IsAdmitted}
 use Rattle.gix.specs.CommitEdits.{Commits, Leaves, LeavesFault, HasBegun, IsTornBy, commit_id, commit_text, written_objects}
-use Rattle.gix.specs.Machine.{Accepts, BothTold, state_told}
+use Rattle.gix.specs.Held.{BothTold, state_told}
+use Rattle.gix.specs.Machine.{Accepts}
 use Rattle.gix.specs.History.{AddsCommit, CallStep}
 use Rattle.gix.proofs.MachineLemmas.{accepts_of}
 
@@ -107,27 +108,12 @@ module _ (laws : LawsBelow) (settings : Settings) (r : CommitRequest) (old new :
 
   faulty : (fault : What) → LeavesFault settings r old new fault → Stepped (error.Store fault)
   faulty what.Write l = ⊎_elim (begun (error.Store what.Write)) (torn (error.Store what.Write)) l
-  faulty (what.Object id) l = untouched (error.Store (what.Object id)) l
-  faulty (what.Name name) l = untouched (error.Store (what.Name name)) l
-  faulty what.Index l = untouched (error.Store what.Index) l
-  faulty what.Listing l = untouched (error.Store what.Listing) l
+  faulty fault l = untouched (error.Store fault) l
 
   refused : (e : CommitEditsError) → Leaves settings r old new e → Stepped e
   refused (error.Store fault) l = faulty fault l
   refused error.NoMemory l = ⊎_elim (untouched error.NoMemory) (begun error.NoMemory) l
-  refused (error.FindExistingObject id) l = untouched (error.FindExistingObject id) l
-  refused (error.ObjectKind id actual) l = untouched (error.ObjectKind id actual) l
-  refused (error.Decode id) l = untouched (error.Decode id) l
-  refused (error.EmptyPathComponent path) l = untouched (error.EmptyPathComponent path) l
-  refused (error.InvalidFilename filename k id source) l = untouched (error.InvalidFilename filename k id source) l
-  refused (error.MissingObject filename k id) l = untouched (error.MissingObject filename k id) l
-  refused (error.WriteObject field) l = untouched (error.WriteObject field) l
-  refused (error.Cycle name) l = untouched (error.Cycle name) l
-  refused (error.DepthLimitExceeded name) l = untouched (error.DepthLimitExceeded name) l
-  refused (error.MustExist name) l = untouched (error.MustExist name) l
-  refused (error.MustNotExist name actual) l = untouched (error.MustNotExist name actual) l
-  refused (error.ReferenceOutOfDate name expected actual) l = untouched (error.ReferenceOutOfDate name expected actual) l
-  refused (error.NameConflict name other) l = untouched (error.NameConflict name other) l
+  refused e l = untouched e l
 
   accepted : (id : ObjectId) → Commits settings r old id new → Accepts settings r before id after
   accepted id c =

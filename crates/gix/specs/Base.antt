@@ -6,10 +6,10 @@ use Rattle.gx_hash.specs.ObjectId.{id_from_hex}
 use Rattle.gx_object.specs.declared.kind.Kind.TheVariants as kind
 use Rattle.gx_object.specs.declared.tree.Entry.{Entry}
 use Rattle.gx_object.specs.CommitSpelling.{CommitText, SpellsCommit}
-use Rattle.gx_object.specs.TreeSpelling.{SpellsTree}
 use Rattle.gx_store.specs.Content.{Content, lookup}
 use Rattle.gx_edit.specs.PathMap.{PathMap, no_paths}
 use Rattle.gx_edit.specs.StandsForMap.{HasMap}
+use Rattle.gx_edit.specs.StoredTree.{HasEntries}
 use Rattle.gix.specs.View.{View}
 
 -- A stored commit names its tree. (Git, "Git Internals - Git Objects", "Commit Objects")
@@ -20,21 +20,18 @@ pub record HasTree (hash : HashKind) (content : Content) (commit tree : ObjectId
   pub spelled : SpellsCommit hash bytes text
   pub named : id_from_hex text.tree ≡ Ok tree
 
--- The tree of a stored commit is stored, and these are its entries. (Git,
--- "Git Internals - Git Objects", "Tree Objects")
-pub record HasEntries (hash : HashKind) (content : Content) (commit : ObjectId) (entries : List Entry) : Type 0 where
+-- These are the entries of the tree that a stored commit names. (Git, "Git Internals - Git Objects", "Commit Objects")
+pub record HasRoot (hash : HashKind) (content : Content) (commit : ObjectId) (entries : List Entry) : Type 0 where
   pub tree : ObjectId
   pub has_tree : HasTree hash content commit tree
-  pub bytes : List ℕ
-  pub stored : lookup content tree ≡ Some (kind.Tree, bytes)
-  pub spelled : SpellsTree hash bytes entries
+  pub has : HasEntries hash content tree entries
 
 -- A commit starts from the tree of its first parent, and without a parent from the empty tree: these are the entries
 -- at its root. (git-commit(1); gitglossary(7), "parent")
 abbrev pub IsBaseTree : View → List ObjectId → List Entry → Type 0
 IsBaseTree view [] entries = entries ≡ []
 IsBaseTree view (parent ∷ parents) entries =
-    IfSome view.content (λ content. HasEntries view.hash content parent entries)
+    IfSome view.content (λ content. HasRoot view.hash content parent entries)
 
 -- a fact of the first parent, where there is one
 abbrev pub OfFirst : List ObjectId → (ObjectId → Type 0) → Type 0

@@ -193,3 +193,9 @@ abbrev pub CommitEditsCauses : Settings → CommitRequest → StoreState → Sto
 CommitEditsCauses settings r old new (Store fault) = HasFault settings r old new fault
 CommitEditsCauses settings r old new NoMemory = Unit {0}
 CommitEditsCauses settings r old new refusal = Cause settings r (view_of old) refusal
+
+-- what of an error is the store's; nothing of a refusal
+abbrev pub store_part : CommitEditsError → Option StoreError
+store_part (Store fault) = Some (store_error.Fault fault)
+store_part NoMemory = Some store_error.NoMemory
+store_part refusal = None

@@ -45,7 +45,7 @@ pub record Commits (settings : Settings) (r : CommitRequest) (old : StoreState) 
   pub admitted : IsAdmitted settings r (view_of old) output way
   pub is_id : id ≡ commit_id old.hash r output
   pub changes : List RefChange
-  pub moves : Moves old.hash r old.references way id changes
+  pub moves : Moves settings old.hash r old.references way id changes
   pub becomes : Becomes (applied changes (all_stored (written_objects r output) old)) new
 
 -- The first of the objects were stored, in the order in which each comes after all that it names, and
@@ -70,7 +70,7 @@ pub record IsTornBy (settings : Settings) (r : CommitRequest) (old new : StoreSt
   pub way : Way
   pub admitted : IsAdmitted settings r (view_of old) output way
   pub changes : List RefChange
-  pub moves : Moves old.hash r old.references way (commit_id old.hash r output) changes
+  pub moves : Moves settings old.hash r old.references way (commit_id old.hash r output) changes
   pub stored : StoreState
   pub becomes : Becomes (all_stored (written_objects r output) old) stored
   pub torn : AfterFault changes stored new

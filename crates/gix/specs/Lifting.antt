@@ -1,8 +1,8 @@
 -- How the refusals of the crates below are handed on.
 use Rattle.gx_edit.specs.declared.error.EditError.{EditError}
 use Rattle.gx_edit.specs.declared.error.EditError.TheVariants as edit_error
-use Rattle.gx_refs.specs.declared.error.RefError.{RefError}
-use Rattle.gx_refs.specs.declared.error.RefError.TheVariants as ref_error
+use Rattle.gx_refs.specs.declared.chain_error.ChainError.{ChainError}
+use Rattle.gx_refs.specs.declared.chain_error.ChainError.TheVariants as chain_error
 use Rattle.gix.specs.declared.error.CommitEditsError.{CommitEditsError}
 use Rattle.gix.specs.declared.error.CommitEditsError.TheVariants.{FindExistingObject, ObjectKind, Decode, InvalidFilename, MissingObject, WriteObject, Cycle, DepthLimitExceeded, Store, NoMemory}
 
@@ -26,8 +26,8 @@ lifted (edit_error.Store fault) = Store fault
 lifted edit_error.NoMemory = NoMemory
 
 -- how a chain is refused, as the refusal of a commit
-abbrev pub of_chain : RefError → CommitEditsError
-of_chain (ref_error.Cycle name) = Cycle name
-of_chain (ref_error.DepthLimitExceeded name) = DepthLimitExceeded name
-of_chain (ref_error.Store fault) = Store fault
-of_chain ref_error.NoMemory = NoMemory
+abbrev pub of_chain : ChainError → CommitEditsError
+of_chain (chain_error.Cycle name) = Cycle name
+of_chain (chain_error.DepthLimitExceeded name) = DepthLimitExceeded name
+of_chain (chain_error.Store fault) = Store fault
+of_chain chain_error.NoMemory = NoMemory

@@ -1,45 +1,22 @@
 -- The repository machine, where commits are concerned: which answer a request may get, and what the repository is then.
-use Rattle.std.specs.Prelude.{◌≡◌, Option, Some, None, Contains}
+use Rattle.std.specs.Prelude.{◌≡◌, Contains}
 use Rattle.std.specs.List.{AllByRecursion}
 use Rattle.gx_hash.specs.declared.kind.HashKind.{HashKind}
 use Rattle.gx_hash.specs.declared.oid.ObjectId.{ObjectId}
-use Rattle.gx_store.specs.Content.{Content, HoldsAll, Adds, AreApart}
-use Rattle.gx_store.specs.State.{RefState, StoreState}
+use Rattle.gx_store.specs.Content.{HoldsAll, Adds, AreApart}
 use Rattle.gx_edit.specs.PathMap.{PathMap, edited}
 use Rattle.gx_edit.specs.CanonicalTree.{Directory, StandsFor, Represents, root_of, trees_of}
 use Rattle.gx_edit.specs.Output.{Output}
 use Rattle.gix.specs.declared.settings.Settings.{Settings}
 use Rattle.gix.specs.declared.error.CommitEditsError.{CommitEditsError}
-use Rattle.gix.specs.declared.error.CommitEditsError.TheVariants.{Store, NoMemory}
 use Rattle.gix.specs.CommitRequest.{CommitRequest}
 use Rattle.gix.specs.View.{State, whole}
 use Rattle.gix.specs.Base.{IsBase}
 use Rattle.gix.specs.Reference.{Way, moved_to}
 use Rattle.gix.specs.Admission.{IsAdmitted}
-use Rattle.gix.specs.Causes.{Cause}
-use Rattle.gix.specs.CommitEdits.{commit_id, written_objects}
-
--- the state of these parts, where both are told
-abbrev pub state_told : HashKind → Option Content → Option RefState → Option State
-state_told hash None references = None
-state_told hash (Some content) None = None
-state_told hash (Some content) (Some references) =
-    Some (record { hash = hash; content = content; references = references })
-
--- the state that a store tells, where it tells both its objects and its references
-abbrev pub state_of : StoreState → Option State
-state_of store = state_told store.hash store.content store.references
-
--- two states are so related, or neither is told
-abbrev pub BothTold : (State → State → Type 0) → Option State → Option State → Type 0
-BothTold R None None = Unit {0}
-BothTold R None (Some new) = ⊥
-BothTold R (Some old) None = ⊥
-BothTold R (Some old) (Some new) = R old new
-
--- A store tells its state before and after, and these are so related; or it tells it at neither time.
-abbrev pub WhereTold : (State → State → Type 0) → StoreState → StoreState → Type 0
-WhereTold R old new = BothTold R (state_of old) (state_of new)
+use Rattle.gix.specs.Causes.{Cause, CommitEditsCauses, store_part}
+use Rattle.gix.specs.CommitEdits.{Commits, Leaves, commit_id, written_objects}
+use Rattle.gix.specs.Meaning.{Meaning}
 
 -- An output is that of a map: a canonical directory stands for the map, the output's root is that of the directory, and
 -- each tree of the output is one of the directory's.
@@ -70,7 +47,7 @@ pub record Accepts (settings : Settings) (r : CommitRequest) (old : State) (id :
   pub represents : (base : PathMap) → IsBase (whole old) r.parents base
       → AreApart old.hash old.content (written_objects r output)
       → Represents old.hash new.content output.root (edited old.hash base r.edits)
-  pub references : new.references ≡ moved_to old.hash r way id old.references
+  pub references : new.references ≡ moved_to settings old.hash r way id old.references
 
 -- A commit is refused: the cause of the refusal holds, and nothing is changed.
 pub record Refuses (settings : Settings) (r : CommitRequest) (old : State) (refusal : CommitEditsError)
@@ -78,8 +55,14 @@ pub record Refuses (settings : Settings) (r : CommitRequest) (old : State) (refu
   pub cause : Cause settings r (whole old) refusal
   pub same : new ≡ old
 
--- an answer of the machine, and no fault of a store or lack of memory
-abbrev pub IsRefusal : CommitEditsError → Type 0
-IsRefusal (Store fault) = ⊥
-IsRefusal NoMemory = ⊥
-IsRefusal refusal = Unit {0}
+-- What a commit of edits means: with it only the store changes.
+abbrev pub commit_edits_meaning : CommitRequest → Meaning ObjectId CommitEditsError
+commit_edits_meaning r = record {
+  fails = store_part;
+  settles = λ id settings. settings;
+  makes = λ settings old id new. Commits settings r old id new;
+  leaves = λ settings old new e. Leaves settings r old new e;
+  causes = λ settings old new e. CommitEditsCauses settings r old new e;
+  accepts = λ settings old id new. Accepts settings r old id new;
+  refuses = λ settings old e new. Refuses settings r old e new;
+}

@@ -12,7 +12,7 @@ use Rattle.gx_store.specs.declared.target.Target.TheVariants as target
 use Rattle.gx_refs.specs.Chain.{IsChain, IsEnd, EndsIn}
 use Rattle.gx_refs.specs.Log.{log_line}
 use Rattle.gx_refs.specs.Moving.{previous_id, moved, MovesAlong}
-use Rattle.gx_refs.specs.declared.log.WriteReflog.TheVariants.{Normal}
+use Rattle.gix.specs.declared.settings.Settings.{Settings}
 use Rattle.gix.specs.CommitRequest.{CommitRequest}
 use Rattle.gix.specs.Log.{commit_log_message}
 
@@ -46,11 +46,12 @@ commit_line hash r way id = log_line (previous_id hash way.found) id r.committer
     (commit_log_message r.parents r.message)
 
 -- the references after the commit: the end names it, and its line stands in each log on the way where one is due
-abbrev pub moved_to : HashKind → CommitRequest → Way → ObjectId → RefState → RefState
-moved_to hash r way id refs = moved Normal way.names way.end id (commit_line hash r way id) refs
+abbrev pub moved_to : Settings → HashKind → CommitRequest → Way → ObjectId → RefState → RefState
+moved_to settings hash r way id refs =
+    moved settings.log_mode way.names way.end id (commit_line hash r way id) refs
 
 -- changes that make just that of the references; where these are not told, one change a name
-pub record Moves (hash : HashKind) (r : CommitRequest) (told : Option RefState) (way : Way) (id : ObjectId)
-    (changes : List RefChange) : Type 0 where
-  pub along : MovesAlong Normal way.names id (commit_line hash r way id) changes
-  pub moved : IfSome told (λ refs. refs_after changes refs ≡ moved_to hash r way id refs)
+pub record Moves (settings : Settings) (hash : HashKind) (r : CommitRequest) (told : Option RefState) (way : Way)
+    (id : ObjectId) (changes : List RefChange) : Type 0 where
+  pub along : MovesAlong settings.log_mode way.names id (commit_line hash r way id) changes
+  pub moved : IfSome told (λ refs. refs_after changes refs ≡ moved_to settings hash r way id refs)

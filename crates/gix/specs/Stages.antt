@@ -7,7 +7,6 @@ use Rattle.gx_object.specs.declared.kind.Kind.{Kind}
 use Rattle.gx_object.specs.declared.kind.Kind.TheVariants as kind
 use Rattle.gx_object.specs.declared.tree.Entry.{Entry}
 use Rattle.gx_object.specs.declared.tree.EntryKind.{EntryKind}
-use Rattle.gx_object.specs.TreeSpelling.{SpellsTree}
 use Rattle.std.specs.FinMap.{get}
 use Rattle.gx_object.specs.Identity.{are_writable}
 use Rattle.gx_store.specs.Conflict.{Conflict}
@@ -22,7 +21,8 @@ use Rattle.gx_edit.specs.Path.{components}
 use Rattle.gx_edit.specs.PathMap.{blobs_of, path_of}
 use Rattle.gx_edit.specs.PathList.{has_empty_name}
 use Rattle.gx_edit.specs.View as directories
-use Rattle.gx_edit.specs.View.{IsReadable, names_of, only}
+use Rattle.gx_edit.specs.StoredTree.{IsReadable}
+use Rattle.gx_edit.specs.View.{names_of, only}
 use Rattle.gx_edit.specs.Editor.{hash_of, view_of as directories_of, upserted_entry}
 use Rattle.gx_edit.specs.EditorCauses.{EditCauses, LoadsAll}
 use Rattle.gx_edit.specs.ViewOfEdits.{view_with, edited_view, PutsOwnId}
@@ -65,12 +65,6 @@ ReadCauses state wanted id (Decode named) = (named ≡ id) × IfSome state.conte
 ReadCauses state wanted id (Store fault) = IsUnreadable state (what.Object id) fault
 ReadCauses state wanted id NoMemory = Unit {0}
 ReadCauses state wanted id refusal = ⊥
-
--- a tree with these entries is stored under the id, where that is told
-abbrev pub IsStoredTree : StoreState → ObjectId → List Entry → Type 0
-IsStoredTree state id entries =
-    IfSome state.content (λ content. (bytes : List ℕ) × (lookup content id ≡ Some (kind.Tree, bytes))
-    × SpellsTree state.hash bytes entries)
 
 -- an editor of the base
 pub record IsBaseEditor (r : CommitRequest) (state : StoreState) (editor : Editor) : Type 0 where
@@ -195,6 +189,6 @@ pub record IsPlan (settings : Settings) (r : CommitRequest) (state : StoreState)
   pub way : Way
   pub admitted : IsAdmitted settings r (view_of state) plan.objects.trees way
   pub objects : AreObjects state.hash r plan.objects
-  pub moves : Moves state.hash r state.references way plan.objects.id plan.changes.items
+  pub moves : Moves settings state.hash r state.references way plan.objects.id plan.changes.items
   pub names : HaveDistinctNames plan.changes.items
   pub kinds : AreChangesOfKind state.hash plan.changes.items

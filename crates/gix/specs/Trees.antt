@@ -16,7 +16,8 @@ use Rattle.gx_edit.specs.EditorWriting.{AreSpelled}
 use Rattle.gx_edit.specs.Entries.{IsSafe}
 use Rattle.gx_edit.specs.Output.{Output}
 use Rattle.gx_edit.specs.View as directories
-use Rattle.gx_edit.specs.View.{Names, IsLoad, IsReadable, names_of, only}
+use Rattle.gx_edit.specs.View.{Names, IsLoad, names_of, only}
+use Rattle.gx_edit.specs.StoredTree.{IsReadable}
 use Rattle.gx_edit.specs.ViewOfEdits.{edited_view, PutsOwnId}
 use Rattle.gx_edit.specs.Written.{IsOutputOfView}
 use Rattle.gx_edit.specs.declared.path_edit.PathEdit.{PathEdit}

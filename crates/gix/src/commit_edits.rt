@@ -20,12 +20,10 @@ use std::alloc::Global;
 pub const NO_PARENT_IDS: [ObjectId; 0] = [];
 
 impl<S: Store> Repository<S> {
-    ghost use Rattle.std.specs.Prelude.{◌≡◌, IfOk, IfErr};
     ghost use Rattle.gix.specs.CommitRequest.{request_of, HaveModuleIds};
-    ghost use Rattle.gix.specs.CommitEdits.{Commits, Leaves};
-    ghost use Rattle.gix.specs.Causes.{CommitEditsCauses};
-    ghost use Rattle.gix.specs.Machine.{WhereTold, Accepts, Refuses, IsRefusal};
-    ghost use Rattle.gix.specs.Repository.{store_of, settings_of};
+    ghost use Rattle.gix.specs.Machine.{commit_edits_meaning};
+    ghost use Rattle.gix.specs.Meaning.{Means};
+    ghost use Rattle.gix.specs.Repository.{held_by};
 
     /// Makes a commit of the first parent's tree, or of the empty one, after the edits in their order, and lets the end
     /// of the reference's chain name it. Of the tree its root is read, and each directory that an edit's path runs
@@ -52,22 +50,10 @@ impl<S: Store> Repository<S> {
         edits: &[PathEdit],
     ) -> Result<ObjectId, CommitEditsError>
         requires { HaveModuleIds edits.now }
-        ensures ok { let r = request_of committer.now author.now reference.now message.now parents.now edits.now in
-            IfOk result (λ id. Commits (settings_of self.old) r (S.state (store_of self.old)) id
-            (S.state (store_of self.new))) }
-        ensures leaves { let r = request_of committer.now author.now reference.now message.now parents.now edits.now in
-            IfErr result (Leaves (settings_of self.old) r (S.state (store_of self.old)) (S.state (store_of self.new))) }
-        ensures causes { let r = request_of committer.now author.now reference.now message.now parents.now edits.now in
-            IfErr result (CommitEditsCauses (settings_of self.old) r (S.state (store_of self.old))
-            (S.state (store_of self.new))) }
-        ensures accepts { let r = request_of committer.now author.now reference.now message.now parents.now edits.now in
-            IfOk result (λ id. WhereTold (λ old new. Accepts (settings_of self.old) r old id new)
-            (S.state (store_of self.old)) (S.state (store_of self.new))) }
-        ensures refuses { let r = request_of committer.now author.now reference.now message.now parents.now edits.now in
-            IfErr result (λ e. IsRefusal e
-            → WhereTold (λ old new. Refuses (settings_of self.old) r old e new) (S.state (store_of self.old))
-            (S.state (store_of self.new))) }
-        ensures settings { settings_of self.new ≡ settings_of self.old }
+        ensures { Means
+            (commit_edits_meaning
+            (request_of committer.now author.now reference.now message.now parents.now edits.now))
+            (held_by S.state self.old) result (held_by S.state self.new) }
     {
         let request = Request {
             committer,
@@ -78,7 +64,7 @@ impl<S: Store> Repository<S> {
             edits,
         };
         laws::commit_is_accepted();
-        commit_request(alloc, &mut self.store, self.settings, &request)
+        commit_request(alloc, &mut self.store, &self.settings, &request)
     }
 }
 
@@ -86,14 +72,15 @@ impl<S: Store> Repository<S> {
 fn commit_request<S: Store>(
     alloc: Global,
     store: &mut S,
-    settings: Settings,
+    settings: &Settings,
     request: &Request<'_>,
 ) -> Result<ObjectId, CommitEditsError>
     requires { HaveModuleIds (asked request.now).edits }
-    ensures ok { IfOk result (λ id. Commits settings (asked request.now) (S.state store.old) id (S.state store.new)) }
-    ensures leaves { IfErr result (Leaves settings (asked request.now) (S.state store.old) (S.state store.new)) }
+    ensures ok { IfOk result (λ id.
+        Commits settings.now (asked request.now) (S.state store.old) id (S.state store.new)) }
+    ensures leaves { IfErr result (Leaves settings.now (asked request.now) (S.state store.old) (S.state store.new)) }
     ensures causes { IfErr result
-        (CommitEditsCauses settings (asked request.now) (S.state store.old) (S.state store.new)) }
+        (CommitEditsCauses settings.now (asked request.now) (S.state store.old) (S.state store.new)) }
 {
     let plan = plan_commit(alloc, store, settings, request)?;
     write_new(alloc, store, request, &plan.objects)?;

@@ -6,7 +6,7 @@ ghost use Rattle.gix.specs.Lifting.{lifted, HasPlace};
 use gx_edit::EditError;
 use gx_hash::{Bytes, NoMemory, ObjectId};
 use gx_object::{EntryKind, Field, Kind};
-use gx_refs::RefError;
+use gx_refs::ChainError;
 use gx_rules::{ComponentError, FullName};
 use gx_store::{StoreError, Target, What};
 use std::alloc::{AllocError, AllocFailed};
@@ -133,17 +133,19 @@ impl From<StoreError> for CommitEditsError {
     }
 }
 
-impl From<RefError> for CommitEditsError {
+impl From<ChainError> for CommitEditsError {
     ghost use Rattle.gix.specs.Lifting.{of_chain};
 
     ghost from_gives = { λ refusal e. e ≡ of_chain refusal };
 
-    fn from(refusal: RefError) -> CommitEditsError {
+    fn from(refusal: ChainError) -> CommitEditsError {
         match refusal {
-            RefError::Cycle { name } => CommitEditsError::Cycle { name },
-            RefError::DepthLimitExceeded { name } => CommitEditsError::DepthLimitExceeded { name },
-            RefError::Store { what } => CommitEditsError::Store { what },
-            RefError::NoMemory => CommitEditsError::NoMemory,
+            ChainError::Cycle { name } => CommitEditsError::Cycle { name },
+            ChainError::DepthLimitExceeded { name } => CommitEditsError::DepthLimitExceeded {
+                name,
+            },
+            ChainError::Store { what } => CommitEditsError::Store { what },
+            ChainError::NoMemory => CommitEditsError::NoMemory,
         }
     }
 }

@@ -1,6 +1,6 @@
 //! What the definitions of commits say of one another, for proofs. The functions do nothing.
 
-ghost use Rattle.std.specs.Prelude.{◌≡◌, List, ◌∷◌, Option, Some, Result, Ok, IfOk, IfErr, Contains};
+ghost use Rattle.std.specs.Prelude.{◌≡◌, ℕ, List, ◌∷◌, Option, Some, Result, Ok, IfOk, IfErr, Contains};
 ghost use Rattle.gx_hash.specs.HashKind.{kind_of};
 ghost use Rattle.gx_hash.specs.declared.oid.ObjectId.{ObjectId};
 ghost use Rattle.gx_store.specs.State.{StoreState};
@@ -16,7 +16,11 @@ ghost use Rattle.gix.specs.Trees.{Makes};
 ghost use Rattle.gix.specs.Reference.{Way};
 ghost use Rattle.gix.specs.Admission.{IsAdmitted, IsValidCommit};
 ghost use Rattle.gix.specs.Causes.{Cause, CommitEditsCauses, IsFaultless};
-ghost use Rattle.gix.specs.Machine.{WhereTold, Accepts};
+ghost use Rattle.gix.specs.Asking.{asks};
+ghost use Rattle.gix.specs.Held.{WhereTold};
+ghost use Rattle.gix.specs.Logs.{log_query};
+ghost use Rattle.gix.specs.Machine.{Accepts, commit_edits_meaning};
+ghost use Rattle.gix.specs.Meaning.{IsLawful, Admits};
 ghost use Rattle.gix.specs.LawsBelow.{LawsBelow};
 ghost use Rattle.gix.specs.History.{Call, CallStep, History, IsEmpty, IsLine, IsWholeId, line_map};
 
@@ -124,3 +128,20 @@ pub fn ids_are_whole(id: &ObjectId)
     gx_hash::laws::spellings_read_back(id);
     gx_hash::laws::id_has_digits(id);
 }
+
+/// A commit of edits is lawful.
+pub fn commit_edits_is_lawful()
+    ensures { (r : CommitRequest) → IsLawful (commit_edits_meaning r) }
+{}
+
+/// A valid commit is not refused by the repository machine.
+pub fn valid_commit_is_not_refused()
+    ensures { (r : CommitRequest) → Admits (commit_edits_meaning r) (λ settings state. IsValidCommit settings r state) }
+{
+    laws_below();
+}
+
+/// To read a log is lawful.
+pub fn log_is_lawful()
+    ensures { (name : List ℕ) → IsLawful (asks (log_query name)) }
+{}

@@ -14,6 +14,8 @@ mod edits;
 mod error;
 pub mod laws;
 mod log;
+mod logs;
+pub mod object;
 mod plan;
 mod reference;
 mod repository;

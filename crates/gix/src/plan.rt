@@ -19,7 +19,7 @@ use crate::{CommitEditsError, Settings};
 use gx_edit::Output;
 use gx_hash::{Bytes, NoMemory, ObjectId, ObjectIds, object_id};
 use gx_object::{Kind, push_commit, unwritable_identity};
-use gx_refs::{WriteReflog, move_end};
+use gx_refs::move_end;
 use gx_store::{Objects, RefChange, Store};
 use std::alloc::Global;
 
@@ -45,12 +45,12 @@ pub(crate) struct Plan {
 pub(crate) fn plan_commit<S: Store>(
     alloc: Global,
     store: &S,
-    settings: Settings,
+    settings: &Settings,
     request: &Request<'_>,
 ) -> Result<Plan, CommitEditsError>
     requires { HaveModuleIds (asked request.now).edits }
-    ensures ok { IfOk result (IsPlan settings (asked request.now) (S.state store.now)) }
-    ensures err { IfErr result (StageCauses settings (asked request.now) (S.state store.now)) }
+    ensures ok { IfOk result (IsPlan settings.now (asked request.now) (S.state store.now)) }
+    ensures err { IfErr result (StageCauses settings.now (asked request.now) (S.state store.now)) }
 {
     let objects = plan_objects(alloc, store, settings, request)?;
     let chain = movable_chain(alloc, store, request)?;
@@ -58,7 +58,7 @@ pub(crate) fn plan_commit<S: Store>(
     let changes = move_end(
         alloc,
         store,
-        WriteReflog::Normal,
+        settings.log_mode,
         &chain,
         objects.id,
         request.committer,
@@ -70,12 +70,12 @@ pub(crate) fn plan_commit<S: Store>(
 fn plan_objects<S: Objects>(
     alloc: Global,
     store: &S,
-    settings: Settings,
+    settings: &Settings,
     request: &Request<'_>,
 ) -> Result<NewObjects, CommitEditsError>
     requires { HaveModuleIds (asked request.now).edits }
-    ensures ok { IfOk result (AreStorable settings (asked request.now) (S.state store.now)) }
-    ensures err { IfErr result (StageCauses settings (asked request.now) (S.state store.now)) }
+    ensures ok { IfOk result (AreStorable settings.now (asked request.now) (S.state store.now)) }
+    ensures err { IfErr result (StageCauses settings.now (asked request.now) (S.state store.now)) }
 {
     let edited = edit_base(alloc, store, request)?;
     let trees = plan_trees(alloc, store, settings, request, &edited)?;
@@ -113,13 +113,13 @@ fn edit_base<S: Objects>(
 fn plan_trees<S: Objects>(
     alloc: Global,
     store: &S,
-    settings: Settings,
+    settings: &Settings,
     request: &Request<'_>,
     edited: &Edited,
 ) -> Result<Output, CommitEditsError>
     requires { IsEditedBy (asked request.now) (S.state store.now) edited.now }
-    ensures ok { IfOk result (AreTreesOf settings (asked request.now) (S.state store.now)) }
-    ensures err { IfErr result (StageCauses settings (asked request.now) (S.state store.now)) }
+    ensures ok { IfOk result (AreTreesOf settings.now (asked request.now) (S.state store.now)) }
+    ensures err { IfErr result (StageCauses settings.now (asked request.now) (S.state store.now)) }
 {
     let blobs = ids_of(alloc, &edited.blobs)?;
     let trees = match edited.editor.plan() {

@@ -4,23 +4,28 @@
 ghost use Rattle.std.specs.Prelude.{◌≡◌, ◌⊎◌, ◌↔◌, codes, Some, IsTrue, MatchResult};
 
 use gix::{Repository, Settings};
+use gx_folder::{Folder, OpenError};
 use gx_hash::{HashKind, NoMemory};
 use gx_object::Time;
-use gx_store::{Memory, StdSink, StdSource};
-use gx_tool::run;
-use std::env;
+use gx_store::{Memory, Objects, StdSink, StdSource, Store};
+use gx_tool::{parse_words, run};
 use std::io::{self, ErrorKind};
 use std::process::ExitCode;
 use std::time::{SystemTime, UNIX_EPOCH};
+use std::{env, mem};
 
 /// What `--help` prints, and standard error hears of a faulty command line.
-const USAGE: &str = "usage: gx --memory|--memory-sha256 apply < SCRIPT
+const USAGE: &str = "usage: gx STORE apply < SCRIPT
 
-Applies a script of requests from standard input to an empty repository in memory,
-and writes a reply for each to standard output.
+Applies a script of requests from standard input to a repository, and writes a
+reply for each to standard output. STORE says where the repository is:
 
-  --memory         the store: in memory, with SHA-1 ids
+  --memory         in memory, empty, with SHA-1 ids
   --memory-sha256  the same, with SHA-256 ids
+  FOLDER           in this folder, with SHA-1 ids; it is made if it is absent or
+                   empty. A name that begins with `-` is written ./-NAME
+  sha256:FOLDER    the same, with SHA-256 ids
+
   apply            applies the script
   -h, --help       prints this text
   --version        prints the version
@@ -33,9 +38,9 @@ status  0  each request of the script got an `ok`
         4  writing the replies failed
         5  out of memory
         6  the arguments are not as above
-        7  the store failed
+        7  the store failed, or another program has the folder
         8  the script has more than 2^40 bytes
-        9  the first argument names no repository
+        9  STORE is a folder with other files, or of the other kind of ids
 ";
 
 const VERSION: &str = "gx 0.1.0";
@@ -46,6 +51,8 @@ const OUT_OF_MEMORY: u8 = 5;
 const WRITE_FAULT: u8 = 4;
 
 const BAD_WORDS: u8 = 6;
+
+const STORE_FAULT: u8 = 7;
 
 const NOT_A_REPOSITORY: u8 = 9;
 
@@ -74,10 +81,10 @@ fn serve(rt: &HostRuntime, words: &[String]) -> u8 {
     match words {
         [word] if is_help(word.as_str()) => printed(print!(rt; "{USAGE}")),
         [word] if word.as_str() == "--version" => printed(println!(rt; "{VERSION}")),
-        [] => apply(rt, words, HashKind::Sha1),
+        [] => apply_in_memory(rt, words, HashKind::Sha1),
         [store, ..] => match hash_of(store.as_str()) {
-            Some(hash) => apply(rt, words, hash),
-            None => not_a_repository(rt),
+            Some(hash) => apply_in_memory(rt, words, hash),
+            None => apply_in_folder(rt, words, store.as_str()),
         },
     }
 }
@@ -103,9 +110,22 @@ fn hash_of(store: &str) -> Option<HashKind>
     None
 }
 
+/// The path and the kind of ids of the folder that the word names.
+fn folder_of(word: &str) -> (&str, HashKind) {
+    match word.strip_prefix("sha256:") {
+        Some(path) => (path, HashKind::Sha256),
+        None => (word, HashKind::Sha1),
+    }
+}
+
 fn not_a_repository(rt: &HostRuntime) -> u8 {
     let _heard = eprintln!(rt; "not a repository");
     NOT_A_REPOSITORY
+}
+
+fn store_fault(rt: &HostRuntime) -> u8 {
+    let _heard = eprintln!(rt; "store fault");
+    STORE_FAULT
 }
 
 /// The status of an answer to the words that was printed, or not.
@@ -124,16 +144,60 @@ fn bad_words(rt: &HostRuntime) -> u8 {
 }
 
 /// Runs the words on an empty repository in memory.
-fn apply(rt: &HostRuntime, words: &[String], hash: HashKind) -> u8 {
-    let alloc = rt.alloc();
-    let store = match Memory::new(alloc, hash) {
-        Ok(store) => store,
-        Err(NoMemory) => return OUT_OF_MEMORY,
-    };
+fn apply_in_memory(rt: &HostRuntime, words: &[String], hash: HashKind) -> u8 {
+    match Memory::new(rt.alloc(), hash) {
+        Ok(store) => apply(rt, words, store),
+        Err(NoMemory) => OUT_OF_MEMORY,
+    }
+}
+
+/// Runs the words on the repository in a folder. None is made where the words are faulty, or the word looks like a
+/// misspelled option.
+fn apply_in_folder(rt: &HostRuntime, words: &[String], word: &str) -> u8 {
+    let (path, hash) = folder_of(word);
+    if path.is_empty() || word.starts_with("-") {
+        return not_a_repository(rt);
+    }
+    if parse_words(words).is_err() {
+        return bad_words(rt);
+    }
+    match open_or_create(rt, path, hash) {
+        Ok(store) => apply(rt, words, store),
+        Err(OpenError::NotARepository) => not_a_repository(rt),
+        Err(OpenError::Fault) => store_fault(rt),
+        Err(OpenError::NoMemory) => OUT_OF_MEMORY,
+    }
+}
+
+/// The store in the folder, which is made where the folder is absent or empty.
+fn open_or_create(
+    rt: &HostRuntime,
+    path: &str,
+    hash: HashKind,
+) -> Result<Folder<HostRuntime>, OpenError> {
+    match Folder::open(rt.clone()?, path) {
+        Ok(store) if store.hash_kind() == hash => Ok(store),
+        Ok(_) => Err(OpenError::NotARepository),
+        Err(OpenError::NotARepository) => Folder::create(rt.clone()?, path, hash),
+        Err(error) => Err(error),
+    }
+}
+
+/// Runs the words on a store.
+fn apply<S: Store + Drop>(rt: &HostRuntime, words: &[String], store: S) -> u8 {
     let mut repo = Repository::new(store, Settings::new());
     let mut input = StdSource::new(rt.reader());
     let mut output = StdSink::new(io::writer(rt));
-    let status = run(alloc, words, now(rt), &mut repo, &mut input, &mut output);
+    let status = run(
+        rt.alloc(),
+        words,
+        now(rt),
+        &mut repo,
+        &mut input,
+        &mut output,
+    );
+    // The process ends here, and its memory with it, so that the store need not be freed object by object.
+    mem::forget(repo);
     if status == BAD_WORDS {
         return bad_words(rt);
     }

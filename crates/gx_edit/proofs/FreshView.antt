@@ -22,6 +22,7 @@ use Rattle.gx_edit.specs.PathMap.{PathMap}
 use Rattle.gx_edit.specs.CanonicalTree.{Directory, leaf_at, IsCanonical, entries_of, entries_within, root_of, tree_of, trees_of, trees_below}
 use Rattle.gx_edit.specs.CanonicalTree.Directory.{End, File, Sub}
 use Rattle.gx_edit.specs.SharedIds.{HasIdsOf}
+use Rattle.gx_edit.specs.StoredTree.{HasEntries}
 use Rattle.gx_edit.specs.View.{Names, IsLoad, names_of, only}
 use Rattle.gx_edit.specs.StandsForMap.{HoldsAt, StandsForMap, HasMap, IsNowhere, IsTreeItem, item_of, map_below}
 use Rattle.gx_edit.specs.declared.leaf.Leaf.{Leaf}
@@ -161,14 +162,14 @@ module _ (hash : HashKind) (content : Content) (tree : ObjectId) (m : PathMap) (
   same_bytes : (a b : List ℕ) → ◌≡◌ {A = Option (Kind × List ℕ)} (Some (kind.Tree, a)) (Some (kind.Tree, b)) → a ≡ b
   same_bytes a b e = let pairs : ◌≡◌ {A = Kind × List ℕ} (kind.Tree, a) (kind.Tree, b) = cc in ap (λ (x : Kind × List ℕ). x.1) pairs
 
-  pub read_stands : (bytes : List ℕ) (entries : List Entry) → lookup content tree ≡ Some (kind.Tree, bytes) → SpellsTree hash bytes entries → StandsForMap hash content (only (names_of entries)) m
-  read_stands bytes entries there spelled = subst (λ es. StandsForMap hash content (only (names_of es)) m) same directory_stands
+  pub read_stands : (entries : List Entry) → HasEntries hash content tree entries → StandsForMap hash content (only (names_of entries)) m
+  read_stands entries has = subst (λ es. StandsForMap hash content (only (names_of es)) m) same directory_stands
     where
-      bytes_are : tree_bytes (entries_of hash its) ≡ bytes
-      bytes_are = same_bytes (tree_bytes (entries_of hash its)) bytes (sym tree_there ∙ there)
+      bytes_are : tree_bytes (entries_of hash its) ≡ has.bytes
+      bytes_are = same_bytes (tree_bytes (entries_of hash its)) has.bytes (sym tree_there ∙ has.stored)
 
       same : entries_of hash its ≡ entries
-      same = tree_once hash bytes (entries_of hash its) entries (subst (λ b. SpellsTree hash b (entries_of hash its)) bytes_are tree_spelled) spelled
+      same = tree_once hash has.bytes (entries_of hash its) entries (subst (λ b. SpellsTree hash b (entries_of hash its)) bytes_are tree_spelled) has.spelled
 
   pub loaded_stands : (load : ObjectId → Names) → IsLoad hash content load → StandsForMap hash content (only (load tree)) m
-  loaded_stands load loads = subst (λ (names : Names). StandsForMap hash content (only names) m) (sym (loads tree (tree_bytes (entries_of hash its)) (entries_of hash its) tree_there tree_spelled)) directory_stands
+  loaded_stands load loads = subst (λ (names : Names). StandsForMap hash content (only names) m) (sym (loads tree (entries_of hash its) (record { bytes = tree_bytes (entries_of hash its); stored = tree_there; spelled = tree_spelled }))) directory_stands

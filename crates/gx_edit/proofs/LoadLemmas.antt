@@ -11,7 +11,8 @@ use Rattle.gx_object.specs.declared.tree.Entry.{Entry}
 use Rattle.gx_object.specs.TreeSpelling.{SpellsTree, ReadsUpTo}
 use Rattle.gx_object.specs.Laws.{tree_once}
 use Rattle.gx_store.specs.Content.{Content, lookup}
-use Rattle.gx_edit.specs.View.{Names, IsLoad, IsReadable, names_of}
+use Rattle.gx_edit.specs.StoredTree.{HasEntries, IsReadable}
+use Rattle.gx_edit.specs.View.{Names, IsLoad, names_of}
 
 -- all bytes are read up to some place
 abbrev pub Reader : HashKind → Type 0
@@ -22,7 +23,7 @@ one a b e = cc
 
 -- no bytes that are stored at the id as a tree spell entries
 abbrev pub IsUnread : HashKind → Content → ObjectId → Type 0
-IsUnread hash content id = (bytes : List ℕ) (entries : List Entry) → lookup content id ≡ Some (kind.Tree, bytes) → SpellsTree hash bytes entries → ⊥
+IsUnread hash content id = (entries : List Entry) → HasEntries hash content id entries → ⊥
 
 module _ (hash : HashKind) (content : Content) (reader : Reader hash) where
   found : Option (Kind × List ℕ) → Names
@@ -46,13 +47,13 @@ module _ (hash : HashKind) (content : Content) (reader : Reader hash) where
 
   pub has_load : (load : ObjectId → Names) × IsLoad hash content load
   unfolding load_of found
-  has_load = (load_of, λ id bytes entries there spelled. ap found there ∙ ap names_of (tree_once hash bytes (reader bytes).0 entries (read_whole bytes entries spelled) spelled))
+  has_load = (load_of, λ id entries has. ap found has.stored ∙ ap names_of (tree_once hash has.bytes (reader has.bytes).0 entries (read_whole has.bytes entries has.spelled) has.spelled))
 
   pub readable : (id : ObjectId) → IsReadable hash content id ⊎ IsUnread hash content id
   readable id = by (lookup content id) refl
     where
       by : (o : Option (Kind × List ℕ)) → lookup content id ≡ o → IsReadable hash content id ⊎ IsUnread hash content id
-      by None e = inr (λ bytes entries there spelled. let no : ◌≡◌ {A = Option (Kind × List ℕ)} None (Some (kind.Tree, bytes)) = sym e ∙ there in cc)
+      by None e = inr (λ entries has. let no : ◌≡◌ {A = Option (Kind × List ℕ)} None (Some (kind.Tree, has.bytes)) = sym e ∙ has.stored in cc)
       by (Some (kind.Tree, bytes)) e = go (cases_lt (reader bytes).1 (length bytes))
         where
           reads : ReadsUpTo hash bytes (reader bytes).0 (reader bytes).1
@@ -62,9 +63,12 @@ module _ (hash : HashKind) (content : Content) (reader : Reader hash) where
           same other is = sym (ap (λ (x : Kind × List ℕ). x.1) (one (kind.Tree, bytes) (kind.Tree, other) is))
 
           go : ((reader bytes).1 < length bytes) ⊎ (length bytes ≤ (reader bytes).1) → IsReadable hash content id ⊎ IsUnread hash content id
-          go (inl less) = inr (λ other entries there spelled. reads.longest (length bytes) entries less (omega arith)
-              (subst (λ b. SpellsTree hash b entries) (same other (sym e ∙ there) ∙ sym (take_all (length bytes) bytes (omega arith))) spelled))
-          go (inr more) = inl (record { bytes = bytes; entries = (reader bytes).0; stored = e; spelled = subst (λ b. SpellsTree hash b (reader bytes).0) (take_all (reader bytes).1 bytes more) reads.front })
-      by (Some (kind.Blob, bytes)) e = inr (λ other entries there spelled. let no : kind.Blob ≡ kind.Tree = ap (λ (x : Kind × List ℕ). x.0) (one (kind.Blob, bytes) (kind.Tree, other) (sym e ∙ there)) in cc)
-      by (Some (kind.Commit, bytes)) e = inr (λ other entries there spelled. let no : kind.Commit ≡ kind.Tree = ap (λ (x : Kind × List ℕ). x.0) (one (kind.Commit, bytes) (kind.Tree, other) (sym e ∙ there)) in cc)
-      by (Some (kind.Tag, bytes)) e = inr (λ other entries there spelled. let no : kind.Tag ≡ kind.Tree = ap (λ (x : Kind × List ℕ). x.0) (one (kind.Tag, bytes) (kind.Tree, other) (sym e ∙ there)) in cc)
+          go (inl less) = inr (λ entries has. reads.longest (length bytes) entries less (omega arith)
+              (subst (λ b. SpellsTree hash b entries) (same has.bytes (sym e ∙ has.stored) ∙ sym (take_all (length bytes) bytes (omega arith))) has.spelled))
+          go (inr more) = inl (record {
+            entries = (reader bytes).0;
+            has = record { bytes = bytes; stored = e; spelled = subst (λ b. SpellsTree hash b (reader bytes).0) (take_all (reader bytes).1 bytes more) reads.front };
+          })
+      by (Some (kind.Blob, bytes)) e = inr (λ entries has. let no : kind.Blob ≡ kind.Tree = ap (λ (x : Kind × List ℕ). x.0) (one (kind.Blob, bytes) (kind.Tree, has.bytes) (sym e ∙ has.stored)) in cc)
+      by (Some (kind.Commit, bytes)) e = inr (λ entries has. let no : kind.Commit ≡ kind.Tree = ap (λ (x : Kind × List ℕ). x.0) (one (kind.Commit, bytes) (kind.Tree, has.bytes) (sym e ∙ has.stored)) in cc)
+      by (Some (kind.Tag, bytes)) e = inr (λ entries has. let no : kind.Tag ≡ kind.Tree = ap (λ (x : Kind × List ℕ). x.0) (one (kind.Tag, bytes) (kind.Tree, has.bytes) (sym e ∙ has.stored)) in cc)

@@ -145,8 +145,8 @@ module _ (hash : HashKind) (content : Content) where
 
   child_of : (d : Directory) (above id : ObjectId) → IsHeld hash content d → above ≡ root_of hash d → HasSubtree hash content above id → IsChild hash content d id
   child_of d above id h is sub =
-      let same : sub.bytes ≡ tree_bytes (entries_of hash d) = same_bytes d sub.bytes h (ap (lookup content) (sym is) ∙ sub.stored) in
-      let entries : sub.entries ≡ entries_of hash d = tree_once hash sub.bytes sub.entries (entries_of hash d) sub.spelled (subst (λ b. SpellsTree hash b (entries_of hash d)) (sym same) (spelled_whole d h)) in
+      let same : sub.has.bytes ≡ tree_bytes (entries_of hash d) = same_bytes d sub.has.bytes h (ap (lookup content) (sym is) ∙ sub.has.stored) in
+      let entries : sub.entries ≡ entries_of hash d = tree_once hash sub.has.bytes sub.entries (entries_of hash d) sub.has.spelled (subst (λ b. SpellsTree hash b (entries_of hash d)) (sym same) (spelled_whole d h)) in
       subst (IsChild hash content d) sub.id_is
       (child_entry d h.canonical h.fits h.own (All-before _ (trees_below hash d) (tree_of hash d ∷ []) h.stored) sub.entry (subst (λ es. Contains es sub.entry) entries sub.among) sub.is_tree)
 

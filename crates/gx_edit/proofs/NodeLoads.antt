@@ -15,6 +15,7 @@ use Rattle.gx_object.specs.Mode.{is_tree_mode}
 use Rattle.gx_object.specs.TreeSpelling.{SpellsTree}
 use Rattle.gx_store.specs.Content.{Content, lookup}
 use Rattle.gx_store.specs.State.{StoreState}
+use Rattle.gx_edit.specs.StoredTree.{HasEntries, TellsEntries}
 use Rattle.gx_edit.specs.View.{Names, IsLoad, WhereLoaded, names_of, names_for, is_null}
 use Rattle.gx_edit.specs.OpenTree.{LoadCauses, OpenCauses}
 use Rattle.std.specs.Prelude.{Result, Ok, Err, IfOk}
@@ -106,10 +107,6 @@ pub not_loaded : (state : StoreState) (item : Option Item) (id : ObjectId) (erro
 not_loaded state item id error tree h =
     let t = tree_of item id tree in
     record { tree = t.tree; there = t.there; is_tree = t.is_tree; known = t.known; why = subst (λ (x : ObjectId). LoadCauses state x error) (sym t.is_id) h }
-
--- the names of a stored tree's entries are those that are loaded
-pub names_loaded : (state : StoreState) (hash : HashKind) (id : ObjectId) (bytes : List ℕ) (entries : List Entry) (names : Names) → hash ≡ state.hash → IfSome state.content (λ content. lookup content id ≡ Some (kind.Tree, bytes)) → SpellsTree hash bytes entries → names ≡ names_of entries → WhereLoaded state (λ load. names ≡ load id)
-names_loaded state hash id bytes entries names same stored spelled is = told_map state.content (λ content there load l. is ∙ sym (l id bytes entries there (subst (λ h. SpellsTree h bytes entries) same spelled))) stored
 
 pub misspelt : (state : StoreState) (hash : HashKind) (id : ObjectId) (bytes : List ℕ) → hash ≡ state.hash → IfSome state.content (λ content. lookup content id ≡ Some (kind.Tree, bytes)) → ((entries : List Entry) → ¬ SpellsTree hash bytes entries) → LoadCauses state id (edit_error.Decode id)
 misspelt state hash id bytes same stored never = (refl, told_map state.content (λ content there. (bytes, there, subst (λ h. (entries : List Entry) → ¬ SpellsTree h bytes entries) same never)) stored)

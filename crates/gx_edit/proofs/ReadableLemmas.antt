@@ -13,9 +13,10 @@ use Rattle.gx_rules.specs.Name.{name_cmp}
 use Rattle.gx_store.specs.Content.{Content, lookup}
 use Rattle.gx_store.specs.State.{StoreState}
 use Rattle.gx_edit.specs.Path.{Path}
+use Rattle.gx_edit.specs.StoredTree.{HasEntries, IsReadable}
 use Rattle.gx_edit.specs.EditorCauses.{IsUnloaded, IsOnWay, LoadsAll}
 use Rattle.gx_edit.specs.Nodes.{Place, AreLinked, Edits, inner_at, onward, walk, names_there, view_at}
-use Rattle.gx_edit.specs.View.{Names, View, IsLoad, IsReadable, WhereLoaded, only, nothing_loaded, below, with_below, item_in, leads, is_null, names_of, names_for, with_tree, new_tree, opened, upserted, removed}
+use Rattle.gx_edit.specs.View.{Names, View, IsLoad, WhereLoaded, only, nothing_loaded, below, with_below, item_in, leads, is_null, names_of, names_for, with_tree, new_tree, opened, upserted, removed}
 use Rattle.gx_edit.specs.declared.editor.item.Item.{Item}
 use Rattle.gx_edit.proofs.FinMapLemmas.{get_put, get_put_other, get_gone_other}
 use Rattle.gx_edit.proofs.LoadLemmas.{Reader, IsUnread, has_load, readable}
@@ -28,11 +29,11 @@ abbrev pub with_names : (ObjectId → Names) → ObjectId → Names → ObjectId
 with_names base id names other = cond (id_eq id other) names (base other)
 
 loads_with : (hash : HashKind) (content : Content) (base : ObjectId → Names) (id : ObjectId) → IsLoad hash content base → IsUnread hash content id → (names : Names) → IsLoad hash content (with_names base id names)
-loads_with hash content base id is bad names other bytes entries there spelled = go (id_eq id other) refl
+loads_with hash content base id is bad names other entries has = go (id_eq id other) refl
   where
     go : (t : Bool) → id_eq id other ≡ t → cond t names (base other) ≡ names_of entries
-    go true e = absurd (bad bytes entries (ap (lookup content) (same_id id other e) ∙ there) spelled)
-    go false e = is other bytes entries there spelled
+    go true e = absurd (bad entries (subst (λ i. HasEntries hash content i entries) (sym (same_id id other e)) has))
+    go false e = is other entries has
 
 -- an empty directory has none in it that could be loaded
 nothing_on_way : (hash : HashKind) (load : ObjectId → Names) (id : ObjectId) (path : Path) → IsOnWay hash load (only empty) path id → ⊥

@@ -203,11 +203,9 @@ next_entry items i e less is = drop-cons items i e less ∙ ap₂ (λ (x : Entry
 module _ (hash : HashKind) (told : Option Content) where
   pub leads_from : (id : ObjectId) (tree : OpenTree) (front rest : List Entry) (e : Entry) → IsOpened hash told id tree → tree.entries.items ≡ front ++ e ∷ rest → is_tree_mode e.mode.value ≡ true → IfSome told (λ content. HasSubtree hash content id e.oid)
   leads_from id tree front rest e o split tree_is = told_with told (λ content stored. record {
-    bytes = tree_bytes tree.entries.items;
     entries = tree.entries.items;
     entry = e;
-    stored = stored;
-    spelled = o.spells.spelled;
+    has = record { bytes = tree_bytes tree.entries.items; stored = stored; spelled = o.spells.spelled };
     among = subst (λ es. Contains es e) (sym split) (Contains-append_right front (e ∷ rest) e (0, omega arith, refl));
     is_tree = tree_is;
     id_is = refl;

@@ -1,13 +1,15 @@
 -- What contracts see of an editor.
-use Rattle.std.specs.Prelude.{ℕ, List, [], ◌∷◌, Option, None, option_map}
+use Rattle.std.specs.Prelude.{◌≡◌, ℕ, List, [], ◌∷◌, Option, None, option_map}
 use Rattle.bstr.specs.BStr.{bstr_bytes}
 use Rattle.gx_hash.specs.declared.kind.HashKind.{HashKind}
 use Rattle.gx_object.specs.declared.tree.Entry.{Entry}
+use Rattle.gx_store.specs.State.{StoreState}
 use Rattle.gx_edit.specs.Path.{Path, components}
+use Rattle.gx_edit.specs.StoredTree.{TellsEntries}
 use Rattle.gx_edit.specs.Nodes.{places_of, view_at}
 use Rattle.gx_object.specs.declared.tree.EntryKind.{EntryKind}
 use Rattle.gx_hash.specs.declared.oid.ObjectId.{ObjectId}
-use Rattle.gx_edit.specs.View.{Names, View, item_in, item_of_kind, below, upserted}
+use Rattle.gx_edit.specs.View.{Names, View, item_in, item_of_kind, names_of, only, below, upserted}
 use Rattle.gx_edit.specs.declared.editor.Editor.{Editor}
 use Rattle.gx_edit.specs.declared.editor.entry_view.EntryView.{EntryView}
 use Rattle.gx_edit.specs.declared.editor.item.Item.{Item}
@@ -27,6 +29,12 @@ entry_of shown = record { mode = shown.mode; filename = bstr_bytes shown.filenam
 -- the entry of an item at this name
 abbrev pub entry_named : List ℕ → Item → Entry
 entry_named n item = record { mode = item.mode; filename = n; oid = item.id }
+
+-- The view is that of a stored tree: of the root its entries are loaded, and nothing below it.
+pub record IsTreeView (state : StoreState) (tree : ObjectId) (v : View) : Type 0 where
+  pub entries : List Entry
+  pub has : TellsEntries state tree entries
+  pub fresh : v ≡ only (names_of entries)
 
 -- the entry at a path, where the directory that holds it is loaded
 abbrev pub seen : View → Path → Option Entry

@@ -7,7 +7,8 @@ use Rattle.gx_store.specs.State.{StoreState}
 use Rattle.gx_edit.specs.Path.{Path}
 use Rattle.gx_edit.specs.PathList.{has_empty_name}
 use Rattle.gx_edit.specs.OpenTree.{LoadCauses}
-use Rattle.gx_edit.specs.View.{Names, View, IsReadable, WhereLoaded, item_in, leads, is_null, below, opened}
+use Rattle.gx_edit.specs.StoredTree.{IsReadable}
+use Rattle.gx_edit.specs.View.{Names, View, WhereLoaded, item_in, leads, is_null, below, opened}
 use Rattle.gx_edit.specs.declared.editor.item.Item.{Item}
 use Rattle.gx_edit.specs.declared.error.EditError.{EditError}
 use Rattle.gx_edit.specs.declared.error.EditError.TheVariants as edit_error

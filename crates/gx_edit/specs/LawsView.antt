@@ -4,14 +4,13 @@ use Rattle.std.specs.List.{AllByRecursion}
 use Rattle.gx_hash.specs.declared.kind.HashKind.{HashKind}
 use Rattle.gx_hash.specs.declared.oid.ObjectId.{ObjectId}
 use Rattle.gx_object.specs.declared.kind.Kind.{Kind}
-use Rattle.gx_object.specs.declared.kind.Kind.TheVariants as kind
 use Rattle.gx_object.specs.declared.tree.Entry.{Entry}
 use Rattle.gx_object.specs.declared.tree.EntryKind.TheVariants as entry_kind
 use Rattle.gx_object.specs.Mode.{mode_of}
 use Rattle.gx_object.specs.Tree.{is_writable_filename}
-use Rattle.gx_object.specs.TreeSpelling.{SpellsTree}
-use Rattle.gx_store.specs.Content.{Content, HoldsAll, Adds, AreApart, IsStored, lookup, id_of}
+use Rattle.gx_store.specs.Content.{Content, HoldsAll, Adds, AreApart, IsStored, id_of}
 use Rattle.gx_edit.specs.Path.{Path, IsName, components}
+use Rattle.gx_edit.specs.StoredTree.{HasEntries}
 use Rattle.gx_edit.specs.PathMap.{PathMap, no_paths, put, dropped, edited, path_of}
 use Rattle.gx_edit.specs.PathList.{IsLeaf, has_empty_name}
 use Rattle.gx_edit.specs.SharedIds.{HasIdsOf}
@@ -37,9 +36,9 @@ EmptyStands = (hash : HashKind) (content : Content) → StandsForMap hash conten
 
 -- The entries of a tree that has a map are a view that stands for it.
 abbrev pub ReadStands : Type 0
-ReadStands = (hash : HashKind) (content : Content) (tree : ObjectId) (bytes : List ℕ) (entries : List Entry)
-    (m : PathMap) → lookup content tree ≡ Some (kind.Tree, bytes) → SpellsTree hash bytes entries
-    → HasMap hash content tree m → StandsForMap hash content (only (names_of entries)) m
+ReadStands = (hash : HashKind) (content : Content) (tree : ObjectId) (entries : List Entry) (m : PathMap)
+    → HasEntries hash content tree entries → HasMap hash content tree m
+    → StandsForMap hash content (only (names_of entries)) m
 
 -- Where a directory is loaded, a leaf of its name is gone, and the map is else as before.
 abbrev pub OpenedStands : Type 0

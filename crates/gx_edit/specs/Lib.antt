@@ -19,6 +19,7 @@ pub mod ReadMapCauses
 pub mod Refusals
 pub mod SharedIds
 pub mod StandsForMap
+pub mod StoredTree
 pub mod View
 pub mod ViewOfEdits
 pub mod Writing

@@ -67,7 +67,7 @@ names_there places (Some at) = option_map (λ (place : Place). place.names) (sli
 abbrev pub view_at : List Place → ℕ → View
 view_at places at q = names_there places (walk places at q)
 
--- A loaded directory stands behind the one that it is loaded in, is loaded in one alone, at one name, and has a
+-- A loaded directory stands after the one that it is loaded in, is loaded in one alone, at one name, and has a
 -- directory's item there.
 pub record AreLinked (places : List Place) : Type 0 where
   pub some : 0 < length places

@@ -18,6 +18,7 @@ use Rattle.gx_store.specs.Content.{Content, lookup}
 use Rattle.gx_store.specs.State.{StoreState, IsUnreadable}
 use Rattle.gx_store.specs.declared.error.What.TheVariants as what
 use Rattle.gx_edit.specs.Path.{IsName}
+use Rattle.gx_edit.specs.StoredTree.{HasEntries}
 use Rattle.gx_edit.specs.declared.error.EditError.{EditError}
 use Rattle.gx_edit.specs.declared.error.EditError.TheVariants as edit_error
 
@@ -49,11 +50,9 @@ pub record SpellsCanonically (hash : HashKind) (bytes : List ℕ) (entries : Lis
 
 -- The first tree has the second one as an entry.
 pub record HasSubtree (hash : HashKind) (content : Content) (tree subtree : ObjectId) : Type 0 where
-  pub bytes : List ℕ
   pub entries : List Entry
   pub entry : Entry
-  pub stored : lookup content tree ≡ Some (kind.Tree, bytes)
-  pub spelled : SpellsTree hash bytes entries
+  pub has : HasEntries hash content tree entries
   pub among : Contains entries entry
   pub is_tree : is_tree_mode entry.mode.value ≡ true
   pub id_is : entry.oid ≡ subtree

@@ -7,16 +7,15 @@ use Rattle.gx_hash.specs.declared.oid.ObjectId.{ObjectId}
 use Rattle.gx_hash.specs.HashKind.{kind_of}
 use Rattle.gx_hash.specs.ObjectId.{null_id}
 use Rattle.gx_rules.specs.Name.{name_cmp}
-use Rattle.gx_object.specs.declared.kind.Kind.TheVariants as kind
 use Rattle.gx_object.specs.declared.tree.Entry.{Entry}
 use Rattle.gx_object.specs.declared.tree.EntryKind.{EntryKind}
 use Rattle.gx_object.specs.declared.tree.EntryKind.TheVariants as entry_kind
 use Rattle.gx_object.specs.Mode.{mode_of, is_tree_mode}
-use Rattle.gx_object.specs.TreeSpelling.{SpellsTree}
 use Rattle.gx_hash.specs.ObjectIds.{id_eq}
-use Rattle.gx_store.specs.Content.{Content, lookup}
+use Rattle.gx_store.specs.Content.{Content}
 use Rattle.gx_store.specs.State.{StoreState}
 use Rattle.gx_edit.specs.Path.{Path}
+use Rattle.gx_edit.specs.StoredTree.{HasEntries}
 use Rattle.gx_edit.specs.declared.editor.item.Item.{Item}
 
 -- a directory: what stands at each of its names
@@ -83,15 +82,7 @@ forgotten v n = with_below v n nothing_loaded
 -- Each tree that is stored is loaded as its entries say.
 abbrev pub IsLoad : HashKind → Content → (ObjectId → Names) → Type 0
 IsLoad hash content load =
-    (id : ObjectId) (bytes : List ℕ) (entries : List Entry) → lookup content id ≡ Some (kind.Tree, bytes)
-    → SpellsTree hash bytes entries → load id ≡ names_of entries
-
--- The id is that of a stored tree, whose bytes spell entries.
-pub record IsReadable (hash : HashKind) (content : Content) (id : ObjectId) : Type 0 where
-  pub bytes : List ℕ
-  pub entries : List Entry
-  pub stored : lookup content id ≡ Some (kind.Tree, bytes)
-  pub spelled : SpellsTree hash bytes entries
+    (id : ObjectId) (entries : List Entry) → HasEntries hash content id entries → load id ≡ names_of entries
 
 -- what holds of whatever loads the trees, where the store tells what it holds
 abbrev pub WhereLoaded : StoreState → ((ObjectId → Names) → Type 0) → Type 0

@@ -16,6 +16,7 @@ mod write;
 
 use crate::EditError;
 use crate::path::split_first_name;
+use crate::stored_tree::read_tree;
 pub use entry_view::EntryView;
 use gx_hash::{HashKind, NoMemory, ObjectId};
 use gx_object::{EntryKind, EntryMode, Tree};
@@ -42,7 +43,8 @@ pub struct Editor {
 
 impl Editor {
     ghost use Rattle.std.specs.Prelude.{◌≡◌, false, IfOk, IfErr, OnOk, OnErr, option_map};
-    ghost use Rattle.gx_edit.specs.Editor.{view_of, hash_of, entry_of, seen_at, upserted_entry};
+    ghost use Rattle.gx_edit.specs.Editor.{view_of, hash_of, entry_of, seen_at, upserted_entry, IsTreeView};
+    ghost use Rattle.gx_edit.specs.OpenTree.{LoadCauses};
     ghost use Rattle.gx_edit.specs.EditorCauses.{EditCauses, LoadsAll, RemoveLeafCauses, IsTreeAt};
     ghost use Rattle.gx_edit.specs.Path.{components};
     ghost use Rattle.gx_edit.specs.PathList.{has_empty_name};
@@ -56,6 +58,20 @@ impl Editor {
         let mut nodes = Vec::new(alloc);
         nodes.push(node_of(alloc, root)?)?;
         Ok(Editor { nodes, hash, alloc })
+    }
+
+    /// An editor of the tree that is stored at an id. Nothing below its root is read.
+    ///
+    /// # Errors
+    /// `FindExistingObject`, `ObjectKind` and `Decode` for the tree; `Store` and `NoMemory`.
+    pub fn open<S: Objects>(alloc: Global, store: &S, id: ObjectId) -> Result<Editor, EditError>
+        ensures ok { IfOk result (λ editor. IsTreeView (S.state store.now) id (view_of editor)) }
+        ensures kind { IfOk result (λ editor. hash_of editor ≡ (S.state store.now).hash) }
+        ensures causes { IfErr result (LoadCauses (S.state store.now) id) }
+    {
+        let hash = store.hash_kind();
+        let root = read_tree(alloc, store, hash, id)?;
+        Ok(Editor::new(alloc, root, hash)?)
     }
 
     /// Takes another root. All edits are forgotten.

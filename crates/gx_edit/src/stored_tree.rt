@@ -15,7 +15,7 @@ use crate::{EditError, PathMap};
 use gx_hash::ObjectId;
 use gx_store::Objects;
 use leaves::{has_leaf, insert_leaf};
-pub(crate) use open_tree::tree_at;
+pub(crate) use open_tree::read_tree;
 use open_tree::{OpenTree, is_open, open_tree};
 pub(crate) use sort_key::compare_keys;
 use std::alloc::Global;

@@ -1,5 +1,5 @@
 -- The ids of the empty tree and of the empty blob, computed.
-use Rattle.std.proofs.Common.{◌≡◌, List, ℕ, [], ◌∷◌, codes, refl}
+use Rattle.std.proofs.Common.{◌≡◌, [], ◌∷◌, codes, refl}
 use Rattle.std.specs.Fmt.{digits}
 use Rattle.sha1.specs.Sha1 as one
 use Rattle.sha2.specs.Sha256 as two

@@ -2,7 +2,7 @@
 use Rattle.std.proofs.Common.{◌≡◌, ℕ, ◌+◌, ◌-◌, ◌*◌, ◌/◌, ◌%◌, ◌<◌, ◌≤◌, zero, suc, List, [], ◌∷◌, ◌++◌, length, take, drop, replicate, ap, refl, sym, ◌∙◌, arith}
 use Rattle.std.specs.Prelude.{slice_set, slice_index, slice_index_or}
 use Rattle.std.proofs.Math.Seq.{set-append_seam, take-append_seam, take-append-add, split_at}
-use Rattle.std.proofs.lemmas.List.{drop-replicate, length-append, length-take-le, length-drop, take-append-drop, append_assoc, take-replicate, length-replicate, take_all}
+use Rattle.std.proofs.lemmas.List.{drop-replicate, length-append, length-take-le, length-drop, take-append-drop, append_assoc, take-replicate, length-replicate}
 use Rattle.std.specs.Prelude.{◌↔◌}
 use Rattle.std.specs.declared.cmp.Ordering.{Ordering}
 use Rattle.std.specs.declared.cmp.Ordering.TheVariants.{Less, Equal, Greater}

@@ -1,5 +1,5 @@
 -- Prefixes of ids: the first of an id's digits.
-use Rattle.std.specs.Prelude.{◌≡◌, ℕ, List, take, length, Option, Some, None, option_map, Result, Ok, Err, if◌then◌else◌}
+use Rattle.std.specs.Prelude.{◌≡◌, ℕ, List, take, length, Option, Some, None, option_map, Result, Ok}
 use Rattle.std.specs.Result.{result_err}
 use Rattle.gx_hash.specs.declared.kind.HashKind.{HashKind}
 use Rattle.gx_hash.specs.declared.oid.ObjectId.{ObjectId}

@@ -33,7 +33,8 @@ use gx_hash::{HashKind, ObjectId};
 pub fn plain_commit(commit: &Commit)
     ensures { commit.now.encoding ≡ None → commit.now.extra_headers ≡ []
         → commit_bytes commit.now
-        ≡ plain_commit_bytes commit.now.tree commit.now.parents commit.now.author commit.now.committer commit.now.message }
+        ≡ plain_commit_bytes commit.now.tree commit.now.parents commit.now.author commit.now.committer
+        commit.now.message }
 {
     let _ = commit;
 }

@@ -1,7 +1,7 @@
 //! Git's objects, and how they are read from bytes and written to bytes.
 //!
 //! `to_bytes` gives the one way in which a value is written, or names a field that can't be written. `from_bytes` reads
-//! all that Git writes, and names the first place where other bytes go wrong.
+//! a tree, a commit or a tag, or names the first place where the bytes go wrong.
 #![tactic(auto)]
 
 mod blob;

@@ -1,7 +1,7 @@
 //! Names of references.
 
 use gx_hash::NoMemory;
-use gx_rules::{Category, FullName, NameError, PartialName, expand_namespace};
+use gx_rules::{Category, FullName, NameError, Namespace, PartialName, expand_namespace};
 use probe_rows::ProbeError;
 use probe_rows::answers::{at, order, push_field, quoted, shown, word};
 use std::alloc::Global;
@@ -42,18 +42,19 @@ fn verdict(alloc: Global, name: &[u8]) -> Result<&'static [u8], NoMemory> {
 pub fn answer(alloc: Global, call: &str, fields: &[Vec<u8>]) -> Result<Vec<u8>, ProbeError> {
     match fields {
         [name] => answer_name(alloc, call, name),
-        [first, second] => answer_order(alloc, call, first, second),
+        [first, second] => answer_two(alloc, call, first, second),
         _ => Err(ProbeError::UnknownCall),
     }
 }
 
-fn answer_order(
+fn answer_two(
     alloc: Global,
     call: &str,
     first: &[u8],
     second: &[u8],
 ) -> Result<Vec<u8>, ProbeError> {
     match call {
+        "full_name_in" | "strip" => answer_in(alloc, call, first, second),
         "compare_full_names" => full_order(alloc, first, second),
         "compare_partial_names" => partial_order(alloc, first, second),
         _ => Err(ProbeError::UnknownCall),
@@ -152,6 +153,29 @@ fn namespace(alloc: Global, name: &PartialName) -> Result<Vec<u8>, ProbeError> {
 fn namespace_copy(alloc: Global, name: &PartialName) -> Result<Vec<u8>, ProbeError> {
     let namespace = expand_namespace(alloc, name)?;
     quoted(alloc, namespace.try_clone()?.as_bstr().as_bytes())
+}
+
+/// What a namespace makes of a name.
+fn answer_in(alloc: Global, call: &str, space: &[u8], name: &[u8]) -> Result<Vec<u8>, ProbeError> {
+    match (PartialName::new(alloc, space), FullName::new(alloc, name)) {
+        (Ok(space), Ok(name)) => name_in(alloc, call, &expand_namespace(alloc, &space)?, &name),
+        _ => word(alloc, "no names"),
+    }
+}
+
+fn name_in(
+    alloc: Global,
+    call: &str,
+    space: &Namespace,
+    name: &FullName,
+) -> Result<Vec<u8>, ProbeError> {
+    if call == "full_name_in" {
+        return quoted(alloc, space.full_name(name)?.as_slice());
+    }
+    match space.strip(alloc, name)? {
+        Some(short) => quoted(alloc, short.as_slice()),
+        None => word(alloc, "none"),
+    }
 }
 
 fn partial_copy(alloc: Global, name: &PartialName) -> Result<Vec<u8>, ProbeError> {

@@ -9,7 +9,7 @@ use Rattle.gx_store.specs.declared.error.StoreError.{StoreError}
 use Rattle.gx_store.specs.declared.error.StoreError.TheVariants as store_error
 use Rattle.gx_refs.specs.Errors.{handed_on}
 use Rattle.gx_refs.specs.Chain.{is_among, IsPath, IsChain, WalksTo, IsEnd, EndsIn, ChainCauses, IsChainFault}
-use Rattle.gx_refs.specs.declared.error.RefError.TheVariants as error
+use Rattle.gx_refs.specs.declared.chain_error.ChainError.TheVariants as error
 use Rattle.gx_refs.proofs.PathLemmas.{path_more, chain_more}
 
 -- Names were followed from the given one, where the references are told along them.

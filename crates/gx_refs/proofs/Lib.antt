@@ -4,3 +4,13 @@ pub mod FateLemmas
 pub mod ChainLemmas
 pub mod LogLemmas
 pub mod MovingLemmas
+mod ShownLemmas
+mod PlanLemmas
+mod EditLemmas
+mod ChangeLemmas
+mod SeenLemmas
+mod RoomLemmas
+mod AnswerLemmas
+mod FindLemmas
+mod ListLemmas
+mod PreparedLemmas

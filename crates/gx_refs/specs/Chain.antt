@@ -8,8 +8,8 @@ use Rattle.gx_store.specs.declared.target.Target.{Target}
 use Rattle.gx_store.specs.declared.target.Target.TheVariants as target
 use Rattle.gx_store.specs.declared.error.What.{What}
 use Rattle.gx_store.specs.declared.error.What.TheVariants as what
-use Rattle.gx_refs.specs.declared.error.RefError.{RefError}
-use Rattle.gx_refs.specs.declared.error.RefError.TheVariants.{Cycle, DepthLimitExceeded, Store, NoMemory}
+use Rattle.gx_refs.specs.declared.chain_error.ChainError.{ChainError}
+use Rattle.gx_refs.specs.declared.chain_error.ChainError.TheVariants.{Cycle, DepthLimitExceeded, Store, NoMemory}
 
 -- the name is one of the names
 abbrev pub is_among : List ℕ → List (List ℕ) → Bool
@@ -30,7 +30,9 @@ IsPath targets [] = Unit {0}
 IsPath targets (name ∷ []) = Unit {0}
 IsPath targets (name ∷ next ∷ names) = LeadsTo targets name next × IsPath targets (next ∷ names)
 
--- Names that a chain may have: the given one is the first, none stands twice, and there are at most six, so that no more than five symbolic steps lie between them. (Ours; Git has a like limit: refs/refs-internal.h, "SYMREF_MAXDEPTH".)
+-- Names that a chain may have: the given one is the first, none comes twice, and there are at most six, so that no
+-- more than five symbolic steps lie between them. (Ours; Git has a like limit:
+-- refs/refs-internal.h, "SYMREF_MAXDEPTH".)
 pub record IsChain (name : List ℕ) (names : List (List ℕ)) : Type 0 where
   pub others : List (List ℕ)
   pub first : names ≡ name ∷ others
@@ -43,7 +45,8 @@ pub record IsWalked (targets : FinMap name_cmp Target) (name : List ℕ) (names 
   pub path : IsPath targets names
 
 -- Names are walked up to the end.
-pub record WalksTo (targets : FinMap name_cmp Target) (name : List ℕ) (names : List (List ℕ)) (end : List ℕ) : Type 0 where
+pub record WalksTo (targets : FinMap name_cmp Target) (name : List ℕ) (names : List (List ℕ))
+    (end : List ℕ) : Type 0 where
   pub walked : IsWalked targets name names
   pub before : List (List ℕ)
   pub last : names ≡ before ++ end ∷ []
@@ -55,7 +58,8 @@ IsEnd (Some (target.Object id)) = Unit {0}
 IsEnd (Some (target.Symbolic next)) = ⊥
 
 -- The chain of a name ends in the first that is absent or names an object. (git-symbolic-ref(1))
-pub record EndsIn (targets : FinMap name_cmp Target) (name : List ℕ) (names : List (List ℕ)) (end : List ℕ) (found : Option Target) : Type 0 where
+pub record EndsIn (targets : FinMap name_cmp Target) (name : List ℕ) (names : List (List ℕ)) (end : List ℕ)
+    (found : Option Target) : Type 0 where
   pub walks : WalksTo targets name names end
   pub is : found ≡ get targets end
   pub stops : IsEnd found
@@ -77,12 +81,15 @@ pub record GoesTooDeep (targets : FinMap name_cmp Target) (name : List ℕ) (nam
   pub leads : LeadsTo targets end next
   pub new : is_among next names ≡ false
 
+-- the chain of the name ends, along these names
 abbrev pub Ends : FinMap name_cmp Target → List ℕ → List (List ℕ) → Type 0
 Ends targets name names = (end : List ℕ) × (found : Option Target) × EndsIn targets name names end found
 
+-- the name leads back into its own chain
 abbrev pub Cycles : FinMap name_cmp Target → List ℕ → Type 0
 Cycles targets name = (names : List (List ℕ)) × CyclesAlong targets name names
 
+-- the name leads through too many others
 abbrev pub IsTooDeep : FinMap name_cmp Target → List ℕ → Type 0
 IsTooDeep targets name = (names : List (List ℕ)) × GoesTooDeep targets name names
 
@@ -92,15 +99,18 @@ IsOnChain targets name reached = (names : List (List ℕ)) × WalksTo targets na
 
 -- a fault names a name on the way that can't be read
 abbrev pub IsChainFault : StoreState → List ℕ → What → Type 0
-IsChainFault state name (what.Name reached) = IsTrue (state.unreadable (what.Name reached)) × IfSome state.references (λ refs. IsOnChain refs.targets name reached)
+IsChainFault state name (what.Name reached) =
+    IsTrue (state.unreadable (what.Name reached))
+    × IfSome state.references (λ refs. IsOnChain refs.targets name reached)
 IsChainFault state name (what.Object id) = ⊥
 IsChainFault state name what.Index = ⊥
 IsChainFault state name what.Listing = ⊥
 IsChainFault state name what.Write = ⊥
 
 -- Why a name has no chain. Lack of memory needs no cause.
-abbrev pub ChainCauses : StoreState → List ℕ → RefError → Type 0
+abbrev pub ChainCauses : StoreState → List ℕ → ChainError → Type 0
 ChainCauses state name (Cycle kept) = (kept ≡ name) × IfSome state.references (λ refs. Cycles refs.targets name)
-ChainCauses state name (DepthLimitExceeded kept) = (kept ≡ name) × IfSome state.references (λ refs. IsTooDeep refs.targets name)
+ChainCauses state name (DepthLimitExceeded kept) =
+    (kept ≡ name) × IfSome state.references (λ refs. IsTooDeep refs.targets name)
 ChainCauses state name (Store fault) = IsChainFault state name fault
 ChainCauses state name NoMemory = Unit {0}

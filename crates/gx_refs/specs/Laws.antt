@@ -22,13 +22,22 @@ Meets targets name TooDeep names = GoesTooDeep targets name names
 
 -- Every name meets a fate: its chain ends, it leads back into itself, or it is too deep.
 abbrev pub EachMeets : Type 0
-EachMeets = (targets : FinMap name_cmp Target) (name : List ℕ) → (fate : Fate) × (names : List (List ℕ)) × Meets targets name fate names
+EachMeets =
+    (targets : FinMap name_cmp Target) (name : List ℕ)
+    → (fate : Fate) × (names : List (List ℕ)) × Meets targets name fate names
 
 -- It meets one alone, along one list of names.
 abbrev pub MeetsOne : Type 0
-MeetsOne = (targets : FinMap name_cmp Target) (name : List ℕ) (one other : Fate) (names others : List (List ℕ)) → Meets targets name one names → Meets targets name other others → (one ≡ other) × (names ≡ others)
+MeetsOne =
+    (targets : FinMap name_cmp Target) (name : List ℕ) (one other : Fate) (names others : List (List ℕ))
+    → Meets targets name one names → Meets targets name other others → (one ≡ other) × (names ≡ others)
 
 -- A log gets the line where its name is among the names and a line is due for it, and else is as before.
 abbrev pub LogsGain : Type 0
-LogsGain = (mode : WriteReflog) (force : Bool) (names : List (List ℕ)) (line : LogLine) (logs : FinMap name_cmp (List LogLine)) (name : List ℕ) → AreDistinct names
-    → get (appended mode force names line logs) name ≡ (if is_among name names && is_due mode logs force name then Some (unwrap_or (get logs name) [] ++ line ∷ []) else get logs name)
+LogsGain =
+    (mode : WriteReflog) (force : Bool) (names : List (List ℕ)) (line : LogLine)
+    (logs : FinMap name_cmp (List LogLine)) (name : List ℕ)
+    → AreDistinct names
+    → get (appended mode force names line logs) name
+    ≡ (if is_among name names && is_due mode logs force name
+    then Some (unwrap_or (get logs name) [] ++ line ∷ []) else get logs name)

@@ -3,3 +3,15 @@ pub mod Chain
 pub mod Log
 pub mod Moving
 pub mod Laws
+pub mod Shown
+pub mod Finding
+pub mod Plan
+pub mod Edits
+pub mod Answer
+pub mod EditCauses
+pub mod Prepared
+pub mod EditLaws
+pub mod Seen
+pub mod Listed
+pub mod Changing
+pub mod Planned

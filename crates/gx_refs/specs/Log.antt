@@ -12,18 +12,25 @@ use Rattle.gx_store.specs.declared.error.What.TheVariants as what
 use Rattle.gx_refs.specs.declared.log.WriteReflog.{WriteReflog}
 use Rattle.gx_refs.specs.declared.log.WriteReflog.TheVariants.{Normal, Always, Disable}
 
--- A missing log is made for HEAD, and for the names under refs/heads/, refs/remotes/ and refs/notes/, where the setting is `true`; for any name where it is `always`; and for none where it is `false`. (git-config(1), "core.logAllRefUpdates")
+-- A missing log is made for HEAD, and for the names under refs/heads/, refs/remotes/ and refs/notes/, where the
+-- setting is `true`; for any name where it is `always`; and for none where it is `false`.
+-- (git-config(1), "core.logAllRefUpdates")
 abbrev pub is_made : WriteReflog → List ℕ → Bool
-is_made Normal name = bytes_eq name (codes "HEAD") || starts_with nat_eq name (codes "refs/heads/") || starts_with nat_eq name (codes "refs/remotes/") || starts_with nat_eq name (codes "refs/notes/")
+is_made Normal name =
+    bytes_eq name (codes "HEAD") || starts_with nat_eq name (codes "refs/heads/")
+    || starts_with nat_eq name (codes "refs/remotes/") || starts_with nat_eq name (codes "refs/notes/")
 is_made Always name = true
 is_made Disable name = false
 
--- A line is due where a log is made or there is one, or where it is forced. With `false` none is written at all, which is ours: Git goes on with a log that is there. (git-config(1), "core.logAllRefUpdates"; git-update-ref(1), "--create-reflog")
+-- A line is due where a log is made or there is one, or where it is forced. With `false` none is written at all,
+-- which is ours: Git goes on with a log that is there. (git-config(1), "core.logAllRefUpdates";
+-- git-update-ref(1), "--create-reflog")
 abbrev pub is_due_where : WriteReflog → Bool → Bool → List ℕ → Bool
 is_due_where Normal force has_log name = force || is_made Normal name || has_log
 is_due_where Always force has_log name = true
 is_due_where Disable force has_log name = false
 
+-- a line is due for the name, with these logs
 abbrev pub is_due : WriteReflog → FinMap name_cmp (List LogLine) → Bool → List ℕ → Bool
 is_due mode logs force name = is_due_where mode force (contains_key logs name) name
 
@@ -40,8 +47,10 @@ IsLogFault state mode force name fault = GoesByLog mode force name × IsUnreadab
 abbrev pub one_line : List ℕ → List ℕ
 one_line message = map (λ byte. if byte == 10 then 32 else byte) message
 
+-- The line has both ids, the identity and the message. (gitrepository-layout(5), "logs")
 abbrev pub log_line : ObjectId → ObjectId → Signature → List ℕ → LogLine
-log_line previous new signature message = record { previous = previous; new = new; signature = signature; message = one_line message }
+log_line previous new signature message =
+    record { previous = previous; new = new; signature = signature; message = one_line message }
 
 -- the line at the end of the log of each of the names
 abbrev pub with_line : List (List ℕ) → LogLine → FinMap name_cmp (List LogLine) → FinMap name_cmp (List LogLine)
@@ -49,5 +58,6 @@ with_line [] line logs = logs
 with_line (name ∷ names) line logs = with_line names line (insert logs name (unwrap_or (get logs name) [] ++ line ∷ []))
 
 -- The logs get the line at the end of the log of each of the names for which one is due.
-abbrev pub appended : WriteReflog → Bool → List (List ℕ) → LogLine → FinMap name_cmp (List LogLine) → FinMap name_cmp (List LogLine)
+abbrev pub appended : WriteReflog → Bool → List (List ℕ) → LogLine → FinMap name_cmp (List LogLine)
+    → FinMap name_cmp (List LogLine)
 appended mode force names line logs = with_line (filter (is_due mode logs force) names) line logs

@@ -1,5 +1,6 @@
-//! Laws of chains and logs, for proofs about references. The functions do nothing.
+//! Laws of chains, logs and edits, for proofs about references. The functions do nothing.
 
+ghost use Rattle.gx_refs.specs.EditLaws.{ChangesMakeEdits, OneResult};
 ghost use Rattle.gx_refs.specs.Laws.{EachMeets, MeetsOne, LogsGain};
 
 /// Every name has a chain that ends, or leads back into itself, or is too deep.
@@ -18,4 +19,16 @@ pub fn each_meets_one_fate()
 #[tactic(auto, using(crate::proofs::LogLemmas::logs_gain))]
 pub fn logs_gain_the_line()
     ensures { LogsGain }
+{}
+
+/// Where no name is touched twice, the changes of edits make what the edits make.
+#[tactic(auto, using(crate::proofs::EditLemmas::changes_make_edits))]
+pub fn changes_make_the_edits()
+    ensures { ChangesMakeEdits }
+{}
+
+/// Edits make one result.
+#[tactic(auto, using(crate::proofs::EditLemmas::one_result))]
+pub fn edits_make_one_result()
+    ensures { OneResult }
 {}

@@ -22,7 +22,7 @@ pub enum WriteReflog {
 }
 
 /// Whether a missing log is made for the name, where not all are.
-fn is_made_normally(name: &[u8]) -> bool
+pub(crate) fn is_made_normally(name: &[u8]) -> bool
     ensures { result ≡ is_made WriteReflog.Normal name.now }
 {
     name == b"HEAD".as_slice()
@@ -59,7 +59,8 @@ fn is_due_normally<S: References>(
 ) -> Result<bool, StoreError>
     ensures due { IfOk result (λ due. IfSome (S.state store.now).references (λ refs.
         due ≡ is_due WriteReflog.Normal refs.logs force name.now)) }
-    ensures untold { IfOk result (λ due. (has_log : Bool) × (due ≡ is_due_where WriteReflog.Normal force has_log name.now)) }
+    ensures untold { IfOk result
+        (λ due. (has_log : Bool) × (due ≡ is_due_where WriteReflog.Normal force has_log name.now)) }
     ensures fault { IfFault result (IsLogFault (S.state store.now) WriteReflog.Normal force name.now) }
 {
     if force || is_made_normally(name.as_slice()) {

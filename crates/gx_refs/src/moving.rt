@@ -28,10 +28,13 @@ pub fn move_end<S: References>(
 ) -> Result<Vec<RefChange>, StoreError>
     requires id { IsOfKind (S.state store.now).hash id }
     requires target { IfSome chain.now.target (IsTargetOfKind (S.state store.now).hash) }
-    ensures moved { let line = log_line (previous_id (S.state store.now).hash chain.now.target) id signature.now message.now in
-        IfOk result (λ changes. (before : List (List ℕ)) (end : List ℕ) → chain.now.names ≡ before ++ end ∷ [] → IfSome (S.state store.now).references (λ refs.
+    ensures moved { let line = log_line
+        (previous_id (S.state store.now).hash chain.now.target) id signature.now message.now in
+        IfOk result (λ changes. (before : List (List ℕ)) (end : List ℕ) → chain.now.names ≡ before ++ end ∷ []
+        → IfSome (S.state store.now).references (λ refs.
         refs_after changes.items refs ≡ moved mode chain.now.names end id line refs)) }
-    ensures along { let line = log_line (previous_id (S.state store.now).hash chain.now.target) id signature.now message.now in
+    ensures along { let line = log_line
+        (previous_id (S.state store.now).hash chain.now.target) id signature.now message.now in
         IfOk result (λ changes. MovesAlong mode chain.now.names id line changes.items) }
     ensures names { IfOk result (λ changes. AreDistinct chain.now.names → HaveDistinctNames changes.items) }
     ensures kinds { IfOk result (λ changes. AreChangesOfKind (S.state store.now).hash changes.items) }
@@ -51,7 +54,9 @@ fn changes_along<S: References>(
     id: ObjectId,
     line: &LogLine,
 ) -> Result<Vec<RefChange>, StoreError>
-    ensures moved { IfOk result (λ changes. (before : List (List ℕ)) (end : List ℕ) → names.now ≡ before ++ end ∷ [] → IfSome (S.state store.now).references (λ refs.
+    ensures moved { IfOk result
+        (λ changes. (before : List (List ℕ)) (end : List ℕ) → names.now ≡ before ++ end ∷ []
+        → IfSome (S.state store.now).references (λ refs.
         refs_after changes.items refs ≡ moved mode names.now end id line.now refs)) }
     ensures along { IfOk result (λ changes. MovesAlong mode names.now id line.now changes.items) }
     ensures fault { IfFault result (IsFaultAt (S.state store.now) mode names.now) }

@@ -1,5 +1,7 @@
 ghost use Rattle.std.specs.Prelude.{◌≡◌, IfOk, IfErr, IfSome};
 ghost use Rattle.gx_refs.specs.Chain.{IsChain, Ends, ChainCauses};
+ghost use Rattle.gx_refs.specs.Errors.{of_chain};
+ghost use Rattle.gx_refs.specs.declared.chain_error.ChainError.{ChainError};
 
 use crate::{RefError, resolve};
 use gx_rules::FullName;
@@ -11,7 +13,8 @@ pub fn chain<S: References>(alloc: Global, store: &S, name: &FullName) -> Result
     ensures ends { IfOk result (λ names. IfSome (S.state store.now).references (λ refs.
         Ends refs.targets name.now names)) }
     ensures names { IfOk result (IsChain name.now) }
-    ensures causes { IfErr result (ChainCauses (S.state store.now) name.now) }
+    ensures causes { IfErr result (λ error. (cause : ChainError) × (error ≡ of_chain cause)
+        × ChainCauses (S.state store.now) name.now cause) }
 {
     Ok(resolve(alloc, store, name)?.names)
 }

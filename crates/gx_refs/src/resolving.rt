@@ -4,7 +4,7 @@ ghost use Rattle.std.specs.Prelude.{◌≡◌, ◌++◌, ◌∷◌, [], ℕ, Lis
 ghost use Rattle.gx_store.specs.Kinds.{IsTargetOfKind};
 ghost use Rattle.gx_refs.specs.Chain.{IsChain, IsEnd, EndsIn, ChainCauses};
 
-use crate::RefError;
+use crate::ChainError;
 use gx_rules::FullName;
 use gx_store::{Names, References, Target};
 use std::alloc::Global;
@@ -27,7 +27,11 @@ pub struct Chain {
 /// let head = FullName::new(alloc, b"HEAD")?;
 /// let chain = resolve(alloc, &store, &head)?;
 /// ```
-pub fn resolve<S: References>(alloc: Global, store: &S, name: &FullName) -> Result<Chain, RefError>
+pub fn resolve<S: References>(
+    alloc: Global,
+    store: &S,
+    name: &FullName,
+) -> Result<Chain, ChainError>
     ensures ends { IfOk result (λ chain. IfSome (S.state store.now).references (λ refs.
         (end : List ℕ) × EndsIn refs.targets name.now chain.names end chain.target)) }
     ensures names { IfOk result (λ chain. IsChain name.now chain.names) }
@@ -46,11 +50,11 @@ pub fn resolve<S: References>(alloc: Global, store: &S, name: &FullName) -> Resu
         };
         if names.contains(&next) {
             let name = name.try_clone()?;
-            return Err(RefError::Cycle { name });
+            return Err(ChainError::Cycle { name });
         }
         if names.len() == MAX_NAMES {
             let name = name.try_clone()?;
-            return Err(RefError::DepthLimitExceeded { name });
+            return Err(ChainError::DepthLimitExceeded { name });
         }
         current = next;
     }

@@ -1,24 +1,11 @@
 -- The components of a path are the names without a slash that give it when they are joined.
 use Rattle.std.proofs.Common.{◌≡◌, ◌≢◌, ℕ, suc, zero, ◌<◌, Bool, true, false, cond, List, [], ◌∷◌, length, get_or, Contains, All, refl, sym, ap, ◌∙◌, arith, ◌==◌, ne_eqb}
 use Rattle.std.proofs.lemmas.Bool.{eqb-false}
-use Rattle.std.specs.List.{join_with_byte, slice_split, onto_first}
+use Rattle.std.specs.List.{join_with_byte, slice_split}
 use Rattle.std.proofs.lemmas.List.Elements.{All-head, All-tail, All-cons}
-use Rattle.std.proofs.lemmas.List.Splits.{join_with_byte-slice_split, slice_split_at, slice_split_none}
+use Rattle.std.proofs.lemmas.List.Splits.{slice_split_at, slice_split_none}
 use Rattle.gx_rules.specs.Path.{Path, components, at_front, IsParted}
-use Rattle.gx_rules.specs.Laws.Paths.{is_slash, components_some}
-
--- the recursion is that of `split`
-at_front_is : (b : ℕ) (path : Path) → at_front b path ≡ onto_first b path
-at_front_is b [] = refl
-at_front_is b (name ∷ path) = refl
-
-components_split : (bytes : List ℕ) → components bytes ≡ slice_split is_slash bytes
-components_split [] = refl
-components_split (b ∷ bytes) = go (b == 47) (components_split bytes)
-  where
-    go : (t : Bool) → components bytes ≡ slice_split is_slash bytes → cond t ([] ∷ components bytes) (at_front b (components bytes)) ≡ cond t ([] ∷ slice_split is_slash bytes) (onto_first b (slice_split is_slash bytes))
-    go true ih = ap (λ (path : Path). [] ∷ path) ih
-    go false ih = ap (at_front b) ih ∙ at_front_is b (slice_split is_slash bytes)
+use Rattle.gx_rules.specs.Laws.Paths.{is_slash, components_some, components_split, components_joined}
 
 -- a name holds no slash
 abbrev NoSlash : List ℕ → Type 0
@@ -47,7 +34,7 @@ pub components_parted : (path : List ℕ) → IsParted path (components path)
 components_parted path = record {
   some = components_some path;
   plain = components_plain path;
-  joined = ap (join_with_byte 47) (components_split path) ∙ join_with_byte-slice_split 47 path;
+  joined = components_joined path;
 }
 
 -- no byte of such a name parts it

@@ -52,6 +52,14 @@ impl FullName {
         })
     }
 
+    /// The bytes of a name that is known to be a full one.
+    pub(crate) fn from_bytes(bytes: Bytes) -> FullName
+        requires { IsFullName bytes }
+        ensures { result ≡ bytes }
+    {
+        FullName { bytes }
+    }
+
     pub fn as_slice(&self) -> &[u8]
         ensures { result.now ≡ self.now }
     {

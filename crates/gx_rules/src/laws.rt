@@ -7,12 +7,13 @@ ghost use Rattle.gx_rules.specs.declared.name_error.NameError.{NameError};
 ghost use Rattle.gx_rules.specs.Category.{category_of, shared_prefix, short_name, IsInDirectoryOf};
 ghost use Rattle.gx_rules.specs.Component.{IsComponent, IsFirstViolated, is_ignorable, ignorable_points};
 ghost use Rattle.gx_rules.specs.Name.{Breaks, IsFullName, IsPartialName, IsFirstBroken};
+ghost use Rattle.gx_rules.specs.Namespace.{namespace_prefix, IsNamespacePrefix};
 ghost use Rattle.gx_rules.specs.Path.{Path, components, IsParted};
 ghost use Rattle.gx_rules.specs.Pattern.{Piece, Spells, letters};
 ghost use Rattle.gx_rules.specs.RefFormat.{IsWellFormed};
 
 use crate::name_rules::check_full_name;
-use crate::{FullName, PartialName, Protect, component};
+use crate::{FullName, Namespace, PartialName, Protect, component};
 
 /// Each name is full, or breaks some rule first, and not both.
 pub fn every_name_is_judged(name: &[u8])
@@ -35,6 +36,18 @@ pub fn names_keep_their_rules(full: &FullName, partial: &PartialName)
     full.keeps_rules();
     partial.keeps_rules();
 }
+
+/// Each `Namespace` is the prefix of a name that the rules allow.
+pub fn namespaces_have_names(namespace: &Namespace)
+    ensures { IsNamespacePrefix namespace.now }
+{
+    namespace.keeps_rules();
+}
+
+/// A full name that follows the prefix of a namespace is a full name.
+pub fn prefixed_names_are_full(name: &[u8], full: &[u8])
+    ensures { IsPartialName name.now → IsFullName full.now → IsFullName (namespace_prefix name.now ++ full.now) }
+{}
 
 /// The components of a path are names without a slash that give the path when slashes join them, and no other
 /// names do.

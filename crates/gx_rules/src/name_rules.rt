@@ -52,7 +52,7 @@ fn check_bytes(name: &[u8]) -> Result<(), NameError>
     Ok(())
 }
 
-/// The rules on where slashes may stand.
+/// The rules on slashes.
 fn check_slashes(name: &[u8]) -> Result<(), NameError>
     ensures { Judges 4 7 name.now result }
 {
@@ -104,7 +104,7 @@ fn check_single_level(name: &[u8]) -> Result<(), NameError>
     Ok(())
 }
 
-/// Whether no name may hold the byte.
+/// Whether no name may contain the byte.
 fn is_forbidden(byte: u8) -> bool
     ensures { result ≡ is_forbidden byte }
 {
@@ -130,7 +130,7 @@ fn are_capitals(name: &[u8]) -> bool
         .all(|byte| byte.is_ascii_uppercase() || *byte == b'_')
 }
 
-/// Whether the text stands in the name at the place.
+/// Whether the name contains the text at the place.
 fn stands_at(name: &[u8], text: &[u8], at: usize) -> bool
     requires { at ≤ length name.now }
     ensures stands { IsTrue result ↔ StandsAt text.now name.now at }

@@ -12,11 +12,13 @@ use Rattle.gx_script.specs.Items.{Line, block_limit}
 
 -- The line puts no file, executable file or link whose block is within its limit.
 abbrev pub IsNoPut : List ℕ → Type 0
-IsNoPut line = (kind : PutKind) (size : ℕ) (path : List ℕ) → size ≤ block_limit → line ≡ put_line (put_word kind) size path → ⊥
+IsNoPut line = (kind : PutKind) (size : ℕ) (path : List ℕ) → size ≤ block_limit
+    → line ≡ put_line (put_word kind) size path → ⊥
 
 -- The line puts no submodule.
 abbrev pub IsNoModule : HashKind → List ℕ → Type 0
-IsNoModule hash line = (id : ObjectId) (path : List ℕ) → IsId hash id → id ≢ null_id hash → line ≡ module_line id path → ⊥
+IsNoModule hash line = (id : ObjectId) (path : List ℕ) → IsId hash id → id ≢ null_id hash
+    → line ≡ module_line id path → ⊥
 
 -- The line drops nothing.
 abbrev pub IsNoDrop : List ℕ → Type 0
@@ -28,6 +30,7 @@ SaysEdit hash edit line = IsEdit hash edit × (edit_items edit ≡ Line line ∷
 
 -- A line puts nothing for which there is room, and has no other edit.
 pub record IsNoEdit (hash : HashKind) (room : ℕ) (line : List ℕ) : Type 0 where
-  pub put : (kind : PutKind) (size : ℕ) (path : List ℕ) → size ≤ block_limit → size ≤ room → line ≡ put_line (put_word kind) size path → ⊥
+  pub put : (kind : PutKind) (size : ℕ) (path : List ℕ) → size ≤ block_limit → size ≤ room
+      → line ≡ put_line (put_word kind) size path → ⊥
   pub whole : IsNoModule hash line
   pub drop : IsNoDrop line

@@ -55,7 +55,8 @@ content_items message edits = Line (message_line (length message)) ∷ Block mes
 -- A commit from its first line to its last.
 abbrev pub commit_items : CommitRequest → List Item
 commit_items request =
-    Line (commit_line request.name) ∷ Line (author_word ++ who_text request.author) ∷ Line (committer_word ++ who_text request.committer)
+    Line (commit_line request.name) ∷ Line (author_word ++ who_text request.author)
+    ∷ Line (committer_word ++ who_text request.committer)
     ∷ (map parent_item request.parents ++ content_items request.message request.edits)
 
 -- A path fits a line. A submodule's id is one of the kind that names an object.

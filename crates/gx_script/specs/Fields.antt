@@ -28,7 +28,8 @@ pub record IsId (hash : HashKind) (id : ObjectId) : Type 0 where
 
 -- Seconds, offset, name, a tab and the email.
 abbrev pub who_text : Signature → List ℕ
-who_text who = signed_decimal who.time.seconds ++ 32 ∷ (signed_decimal who.time.offset ++ 32 ∷ (who.name ++ 9 ∷ who.email))
+who_text who =
+    signed_decimal who.time.seconds ++ 32 ∷ (signed_decimal who.time.offset ++ 32 ∷ (who.name ++ 9 ∷ who.email))
 
 -- Seconds fit an i64 and offsets an i32; name and email have no tab and no newline.
 pub record IsIdentity (who : Signature) : Type 0 where

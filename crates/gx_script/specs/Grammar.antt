@@ -37,7 +37,8 @@ use Rattle.gx_script.specs.Steps.{GivesLine, LineFails, ReadsLine}
 use Rattle.gx_script.specs.Script.{IsForm, IsPart, newlines_in}
 use Rattle.gx_script.specs.Spelling.{items_of}
 
--- What may come next. Numbers are the parents or edits so far, the bytes of a block, and the bytes that blocks may still have.
+-- What may come next. Numbers are the parents or edits so far, the bytes of a block, and the bytes that blocks may
+-- still have.
 pub data State : Type 0 where
   AtFirst : State
   AtAuthor : State
@@ -113,8 +114,10 @@ edit_of Link path bytes = path_edit.Link path bytes
 
 -- An edit after this many, of which the block may have this many bytes, or the end of the request.
 abbrev pub SaysChange : HashKind → ℕ → ℕ → Change → List ℕ → Type 0
-SaysChange hash count room (Put kind size path) line = (count < edit_limit) × (size ≤ block_limit) × (size ≤ room) × NoNewline path × (line ≡ put_line (put_word kind) size path)
-SaysChange hash count room (Whole edit) line = (count < edit_limit) × IsEdit hash edit × (edit_items edit ≡ Line line ∷ [])
+SaysChange hash count room (Put kind size path) line = (count < edit_limit) × (size ≤ block_limit) × (size ≤ room)
+    × NoNewline path × (line ≡ put_line (put_word kind) size path)
+SaysChange hash count room (Whole edit) line = (count < edit_limit) × IsEdit hash edit
+    × (edit_items edit ≡ Line line ∷ [])
 SaysChange hash count room End line = line ≡ end_line
 
 -- The words of persons who may be left out.
@@ -201,7 +204,8 @@ after_first line =
 
 -- After the parents comes the message.
 abbrev pub after_parent : ℕ → List ℕ → State
-after_parent count line = if begins_with line (codes "parent ") then AtParent (count + 1) else AtContent (message_size line)
+after_parent count line =
+    if begins_with line (codes "parent ") then AtParent (count + 1) else AtContent (message_size line)
 
 -- After the person, who may be left out, comes the message.
 abbrev pub after_person : List ℕ → List ℕ → State
@@ -291,34 +295,44 @@ pub record IsBadFrom (hash : HashKind) (state : State) (bytes : List ℕ) (ends 
 
 -- From the state on the bytes go wrong at the line.
 abbrev pub BadFromAt : State → Reading → Option (List ℕ) → ℕ → List ℕ → Type 0
-BadFromAt state old left' line bytes = (newlines : ℕ) × IsBadFrom old.hash state bytes (IsEnd left') newlines × (line ≡ line_number old newlines)
+BadFromAt state old left' line bytes = (newlines : ℕ) × IsBadFrom old.hash state bytes (IsEnd left') newlines
+    × (line ≡ line_number old newlines)
 
 -- From a state on, no request was read.
 abbrev pub FailsFrom : State → Reading → Option (List ℕ) → Option (List ℕ) → ℕ → ℕ → ScriptError → Type 0
-FailsFrom state old left left' faults faults' e = Fails (BeginsFrom old.hash state) (BadFromAt state old left') old left left' faults faults' e
+FailsFrom state old left left' faults faults' e =
+    Fails (BeginsFrom old.hash state) (BadFromAt state old left') old left left' faults faults' e
 
 -- The items of a value were read from a state on, and lead to another.
-abbrev pub ReadsFrom : {X : Type 0} → State → (X → State) → (X → List Item) → (X → Type 0) → Reading → Reading → Option (List ℕ) → Option (List ℕ) → ℕ → ℕ → Result X ScriptError → Type 0
-ReadsFrom state end items Fits old new left left' faults faults' (Ok x) = Fits x × Leads old.hash state (items x) (end x) × Moves old new left left' (items_text (items x))
-ReadsFrom state end items Fits old new left left' faults faults' (Err e) = FailsFrom state old left left' faults faults' e
+abbrev pub ReadsFrom : {X : Type 0} → State → (X → State) → (X → List Item) → (X → Type 0) → Reading → Reading
+    → Option (List ℕ) → Option (List ℕ) → ℕ → ℕ → Result X ScriptError → Type 0
+ReadsFrom state end items Fits old new left left' faults faults' (Ok x) = Fits x
+    × Leads old.hash state (items x) (end x) × Moves old new left left' (items_text (items x))
+ReadsFrom state end items Fits old new left left' faults faults' (Err e) =
+    FailsFrom state old left left' faults faults' e
 
 -- Every other line is wrong.
 abbrev pub IsNo : {X : Type 0} → (X → List ℕ → Type 0) → List ℕ → Type 0
 IsNo {X} Says line = (value : X) → Says value line → ⊥
 
 -- What a line says was read, or the line says nothing of the kind.
-abbrev pub ReadsSaid : {X : Type 0} → (X → List ℕ → Type 0) → Reading → Reading → Option (List ℕ) → Option (List ℕ) → ℕ → ℕ → Result X ScriptError → Type 0
-ReadsSaid Says old new left left' faults faults' result = ReadsLine Says (IsNo Says) old new left left' faults faults' result
+abbrev pub ReadsSaid : {X : Type 0} → (X → List ℕ → Type 0) → Reading → Reading → Option (List ℕ) → Option (List ℕ)
+    → ℕ → ℕ → Result X ScriptError → Type 0
+ReadsSaid Says old new left left' faults faults' result =
+    ReadsLine Says (IsNo Says) old new left left' faults faults' result
 
 -- There is no more request.
 abbrev pub IsFinished : Reading → Reading → Option (List ℕ) → Option (List ℕ) → Type 0
 IsFinished old new left left' = Moves old new left left' [] × (new.held ≡ []) × IsEnd left'
 
 -- The first line of a request was read, or there is no more request.
-abbrev pub ReadsFirst : Reading → Reading → Option (List ℕ) → Option (List ℕ) → ℕ → ℕ → Result (Option Opening) ScriptError → Type 0
-ReadsFirst old new left left' faults faults' (Ok (Some opening)) = GivesLine (SaysOpening old.hash opening) old new left left'
+abbrev pub ReadsFirst : Reading → Reading → Option (List ℕ) → Option (List ℕ)
+    → ℕ → ℕ → Result (Option Opening) ScriptError → Type 0
+ReadsFirst old new left left' faults faults' (Ok (Some opening)) =
+    GivesLine (SaysOpening old.hash opening) old new left left'
 ReadsFirst old new left left' faults faults' (Ok None) = IsFinished old new left left'
-ReadsFirst old new left left' faults faults' (Err e) = LineFails (λ front. IsEnd left' × (front ≢ [])) (IsNo (SaysOpening old.hash)) old left left' faults faults' e
+ReadsFirst old new left left' faults faults' (Err e) =
+    LineFails (λ front. IsEnd left' × (front ≢ [])) (IsNo (SaysOpening old.hash)) old left left' faults faults' e
 
 -- What may come after a first line.
 abbrev pub after_opening : Opening → State
@@ -329,7 +343,8 @@ after_opening (Ref name target expect) = AtPerson committer_word
 after_opening (NoteSet reference object size) = AtNote size
 
 -- The rest of a request was read, after its first line.
-pub record ReadsRest (opening : Opening) (old new : Reading) (left left' : Option (List ℕ)) (request : Request) : Type 0 where
+pub record ReadsRest (opening : Opening) (old new : Reading) (left left' : Option (List ℕ)) (request : Request)
+    : Type 0 where
   pub tail : List Item
   pub items : (line : List ℕ) → opens_with opening line → items_of request ≡ Line line ∷ tail
   pub form : IsOpening old.hash opening → IsForm old.hash request
@@ -337,9 +352,11 @@ pub record ReadsRest (opening : Opening) (old new : Reading) (left left' : Optio
   pub moves : Moves old new left left' (items_text tail)
 
 -- A request was read after its first line, or why not.
-abbrev pub ReadsBehind : Opening → Reading → Reading → Option (List ℕ) → Option (List ℕ) → ℕ → ℕ → Result Request ScriptError → Type 0
+abbrev pub ReadsBehind : Opening → Reading → Reading → Option (List ℕ) → Option (List ℕ)
+    → ℕ → ℕ → Result Request ScriptError → Type 0
 ReadsBehind opening old new left left' faults faults' (Ok request) = ReadsRest opening old new left left' request
-ReadsBehind opening old new left left' faults faults' (Err e) = FailsFrom (after_opening opening) old left left' faults faults' e
+ReadsBehind opening old new left left' faults faults' (Err e) =
+    FailsFrom (after_opening opening) old left left' faults faults' e
 
 -- The parents, and the line of the message after them.
 abbrev pub parents_items : List ObjectId × ℕ → List Item

@@ -7,4 +7,5 @@ use Rattle.gx_script.specs.Spelling.{spelling}
 
 -- The bytes have no whole request at their front.
 abbrev pub HasNoRequest : HashKind → List ℕ → Type 0
-HasNoRequest hash bytes = (request : Request) (rest : List ℕ) → IsRequest hash request → bytes ≡ spelling request ++ rest → ⊥
+HasNoRequest hash bytes = (request : Request) (rest : List ℕ) → IsRequest hash request
+    → bytes ≡ spelling request ++ rest → ⊥

@@ -1,4 +1,4 @@
--- What the parts of a line say, and when they say nothing.
+-- What the parts of a line say, and when they say nothing. (Ours; docs/SCRIPT.md.)
 use Rattle.std.specs.Prelude.{◌≡◌, ◌≢◌, ℕ, ℤ, ◌≤◌, ◌<◌, ◌^◌, List, [], ◌∷◌, ◌++◌, length, map, Option, FitsSigned, MatchOption}
 use Rattle.std.specs.Int.{Width}
 use Rattle.std.specs.Fmt.{decimal, signed_decimal}
@@ -55,7 +55,8 @@ pub record IsPair (word line first rest : List ℕ) : Type 0 where
 
 -- The bytes after the word have no two fields with spaces after them.
 abbrev pub IsNoTriple : List ℕ → List ℕ → Type 0
-IsNoTriple word line = (first second rest : List ℕ) → Without 32 first → Without 32 second → line ≡ word ++ (first ++ 32 ∷ (second ++ 32 ∷ rest)) → ⊥
+IsNoTriple word line = (first second rest : List ℕ) → Without 32 first → Without 32 second
+    → line ≡ word ++ (first ++ 32 ∷ (second ++ 32 ∷ rest)) → ⊥
 
 -- Two fields after the word, and what stands after their spaces.
 pub record IsTriple (word line first second rest : List ℕ) : Type 0 where
@@ -115,7 +116,8 @@ abbrev pub IsNoWalkId : HashKind → List ℕ → Type 0
 IsNoWalkId hash bytes = (walked : WalkId) → IsId hash walked.id → bytes ≡ walk_id_text walked → ⊥
 
 -- Fields after spaces, each of which spells a value.
-pub record AreSpaced {X : Type 0} (text : X → List ℕ) (Fits : X → Type 0) (most : ℕ) (bytes : List ℕ) (values : List X) : Type 0 where
+pub record AreSpaced {X : Type 0} (text : X → List ℕ) (Fits : X → Type 0) (most : ℕ) (bytes : List ℕ) (values : List X)
+    : Type 0 where
   pub is : bytes ≡ spaced (map text values)
   pub fits : AllByRecursion Fits values
   pub few : length values ≤ most
@@ -124,56 +126,79 @@ pub record AreSpaced {X : Type 0} (text : X → List ℕ) (Fits : X → Type 0) 
 abbrev pub AreNotSpaced : {X : Type 0} → (X → List ℕ) → (X → Type 0) → ℕ → List ℕ → Type 0
 AreNotSpaced {X} text Fits most bytes = (values : List X) → AreSpaced text Fits most bytes values → ⊥
 
--- A line is no request of a form.
+-- The line names no one who commits from now on: it is no `identity` with who that is. (Ours)
 abbrev pub IsNoIdentity : List ℕ → Type 0
 IsNoIdentity line = (who : Signature) → IsIdentity who → line ≡ identity_word ++ who_text who → ⊥
 
+-- The line asks for no deletion: it is no `delete` with a full name and what the reference has to be. (Ours)
 abbrev pub IsNoDelete : HashKind → List ℕ → Type 0
-IsNoDelete hash line = (name : List ℕ) (expect : Expect) → IsFullName name × IsExpect hash expect → line ≡ delete_line name expect → ⊥
+IsNoDelete hash line = (name : List ℕ) (expect : Expect) → IsFullName name × IsExpect hash expect
+    → line ≡ delete_line name expect → ⊥
 
+-- The line asks for no list of references: it is no `refs`, alone or with a prefix. (Ours)
 abbrev pub IsNoRefs : List ℕ → Type 0
 IsNoRefs line = (prefix : Option (List ℕ)) → IsPrefix prefix → line ≡ refs_line prefix → ⊥
 
+-- The line asks for no log: it is no `log` with a full name. (Ours)
 abbrev pub IsNoLog : List ℕ → Type 0
 IsNoLog line = (name : List ℕ) → IsFullName name → line ≡ log_line name → ⊥
 
+-- The line asks for no paths of a tree: it is no `paths` with an id of the kind. (Ours)
 abbrev pub IsNoPaths : HashKind → List ℕ → Type 0
 IsNoPaths hash line = (id : ObjectId) → IsId hash id → line ≡ paths_line id → ⊥
 
+-- The line asks for no walk: it is no `walk` with an order and one or more ids of the kind, within the limit. (Ours)
 abbrev pub IsNoWalk : HashKind → List ℕ → Type 0
 IsNoWalk hash line = (order : Order) (ids : List WalkId) → IsWalk hash order ids → line ≡ walk_line order ids → ⊥
 
+-- The line asks for no merge bases: it is no `bases` with ids of the kind, within their limit. (Ours)
 abbrev pub IsNoBases : HashKind → List ℕ → Type 0
-IsNoBases hash line = (first : ObjectId) (others : List ObjectId) → IsBases hash first others → line ≡ bases_line first others → ⊥
+IsNoBases hash line = (first : ObjectId) (others : List ObjectId) → IsBases hash first others
+    → line ≡ bases_line first others → ⊥
 
+-- The line asks for no merge base of all: it is no `octopus` with ids of the kind, within their limit. (Ours)
 abbrev pub IsNoOctopus : HashKind → List ℕ → Type 0
 IsNoOctopus hash line = (ids : List ObjectId) → IsOctopus hash ids → line ≡ octopus_line ids → ⊥
 
+-- The line asks for no description: it is no `describe` with a set of names, a number and an id of the kind. (Ours)
 abbrev pub IsNoDescribe : HashKind → List ℕ → Type 0
-IsNoDescribe hash line = (names : NameSet) (max : ℕ) (id : ObjectId) → IsDescribe hash max id → line ≡ describe_line names max id → ⊥
+IsNoDescribe hash line = (names : NameSet) (max : ℕ) (id : ObjectId) → IsDescribe hash max id
+    → line ≡ describe_line names max id → ⊥
 
+-- The line asks that no note be removed: it is no `note-drop` with a partial name and an id of the kind. (Ours)
 abbrev pub IsNoNoteDrop : HashKind → List ℕ → Type 0
-IsNoNoteDrop hash line = (reference : List ℕ) (object : ObjectId) → IsNote hash reference object → line ≡ note_drop_line reference object → ⊥
+IsNoNoteDrop hash line = (reference : List ℕ) (object : ObjectId) → IsNote hash reference object
+    → line ≡ note_drop_line reference object → ⊥
 
+-- The line asks for no notes: it is no `note-get` with an id of the kind and patterns. (Ours)
 abbrev pub IsNoNoteGet : HashKind → List ℕ → Type 0
-IsNoNoteGet hash line = (object : ObjectId) (patterns : List (List ℕ)) → IsNoteGet hash object patterns → line ≡ note_get_line object patterns → ⊥
+IsNoNoteGet hash line = (object : ObjectId) (patterns : List (List ℕ)) → IsNoteGet hash object patterns
+    → line ≡ note_get_line object patterns → ⊥
 
+-- The line sets no namespace: it is no `namespace`, alone or with a partial name. (Ours)
 abbrev pub IsNoNamespace : List ℕ → Type 0
 IsNoNamespace line = (name : Option (List ℕ)) → IsNamespace name → line ≡ namespace_line name → ⊥
 
+-- The line begins no commit: it is no `commit` with a full name. (Ours)
 abbrev pub IsNoCommit : List ℕ → Type 0
 IsNoCommit line = (name : List ℕ) → IsFullName name → line ≡ commit_line name → ⊥
 
+-- The line begins no tag: it is no `tag` with a field for the name, an id of the kind and the kind of an object. (Ours)
 abbrev pub IsNoTag : HashKind → List ℕ → Type 0
-IsNoTag hash line = (name : List ℕ) (target : ObjectId) (kind : Kind) → (name ≢ []) × IsField name × IsId hash target → line ≡ tag_text name target kind → ⊥
+IsNoTag hash line = (name : List ℕ) (target : ObjectId) (kind : Kind) → (name ≢ []) × IsField name × IsId hash target
+    → line ≡ tag_text name target kind → ⊥
 
+-- The line sets no reference: it is no `ref` with a full name, a target and what the reference has to be. (Ours)
 abbrev pub IsNoRef : HashKind → List ℕ → Type 0
-IsNoRef hash line = (name : List ℕ) (target : Target) (expect : Expect) → IsFullName name × IsTarget hash target × IsExpect hash expect → line ≡ ref_text name target expect → ⊥
+IsNoRef hash line = (name : List ℕ) (target : Target) (expect : Expect)
+    → IsFullName name × IsTarget hash target × IsExpect hash expect → line ≡ ref_text name target expect → ⊥
 
+-- The line puts no note: it is no `note-set` with a partial name, an id of the kind and the size of a block. (Ours)
 abbrev pub IsNoNoteSet : HashKind → List ℕ → Type 0
-IsNoNoteSet hash line = (reference : List ℕ) (object : ObjectId) (size : ℕ) → IsNote hash reference object × (size ≤ block_limit) → line ≡ note_set_line reference object size → ⊥
+IsNoNoteSet hash line = (reference : List ℕ) (object : ObjectId) (size : ℕ)
+    → IsNote hash reference object × (size ≤ block_limit) → line ≡ note_set_line reference object size → ⊥
 
--- A line is no request of the forms of references, of history, of notes.
+-- A line is no request of the forms of references that are one line. (Ours)
 pub record IsNoReference (hash : HashKind) (line : List ℕ) : Type 0 where
   pub identity : IsNoIdentity line
   pub delete : IsNoDelete hash line
@@ -182,6 +207,7 @@ pub record IsNoReference (hash : HashKind) (line : List ℕ) : Type 0 where
   pub head : line ≢ head_line
   pub namespace : IsNoNamespace line
 
+-- A line is no request of the forms of history. (Ours)
 pub record IsNoHistory (hash : HashKind) (line : List ℕ) : Type 0 where
   pub paths : IsNoPaths hash line
   pub walk : IsNoWalk hash line
@@ -189,10 +215,12 @@ pub record IsNoHistory (hash : HashKind) (line : List ℕ) : Type 0 where
   pub octopus : IsNoOctopus hash line
   pub describe : IsNoDescribe hash line
 
+-- A line is no request of the forms of notes that are one line. (Ours)
 pub record IsNoNote (hash : HashKind) (line : List ℕ) : Type 0 where
   pub note_drop : IsNoNoteDrop hash line
   pub note_get : IsNoNoteGet hash line
 
+-- A line is no whole request of any form. (Ours)
 pub record IsNoOneLine (hash : HashKind) (line : List ℕ) : Type 0 where
   pub reference : IsNoReference hash line
   pub history : IsNoHistory hash line
@@ -200,4 +228,5 @@ pub record IsNoOneLine (hash : HashKind) (line : List ℕ) : Type 0 where
 
 -- A line is the whole request, or it is none of a form.
 abbrev pub IsOneLine : HashKind → List ℕ → Type 0 → Option Request → Type 0
-IsOneLine hash line Else found = MatchOption found Else (λ request. IsForm hash request × (items_of request ≡ Line line ∷ []))
+IsOneLine hash line Else found =
+    MatchOption found Else (λ request. IsForm hash request × (items_of request ≡ Line line ∷ []))

@@ -16,7 +16,8 @@ note_set_line name object size = codes "note-set " ++ (name ++ 32 ∷ (hex_of ob
 
 -- A note to be put is its line and its block.
 abbrev pub note_items : NoteRequest → List Item
-note_items request = Line (note_set_line request.reference request.object (length request.note)) ∷ Block request.note ∷ []
+note_items request =
+    Line (note_set_line request.reference request.object (length request.note)) ∷ Block request.note ∷ []
 
 -- The name of a notes reference is a partial one, and the id of the kind.
 abbrev pub IsNote : HashKind → List ℕ → ObjectId → Type 0

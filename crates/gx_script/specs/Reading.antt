@@ -48,7 +48,8 @@ abbrev pub Anything : List ℕ → Type 0
 Anything bytes = Unit {0}
 
 -- A reader failed while what it held had the property Part; Bad says what is malformed, and at which line.
-abbrev pub Fails : (List ℕ → Type 0) → (ℕ → List ℕ → Type 0) → Reading → Option (List ℕ) → Option (List ℕ) → ℕ → ℕ → ScriptError → Type 0
+abbrev pub Fails : (List ℕ → Type 0) → (ℕ → List ℕ → Type 0) → Reading → Option (List ℕ) → Option (List ℕ)
+    → ℕ → ℕ → ScriptError → Type 0
 Fails Part Bad old left left' faults faults' (Malformed line) = Stays (Bad line) old left left'
 Fails Part Bad old left left' faults faults' ReadFault = Stays Part old left left' × Rose faults faults'
 Fails Part Bad old left left' faults faults' TooLong = Overruns Part old left left'
@@ -60,10 +61,14 @@ line_number reading newlines = min (reading.newlines + newlines + 1) (2 ^ 64 - 1
 
 -- The bytes go wrong at the line.
 abbrev pub BadAt : Reading → Option (List ℕ) → ℕ → List ℕ → Type 0
-BadAt old left' line bytes = (newlines : ℕ) × IsBad old.hash bytes (IsEnd left') newlines × (line ≡ line_number old newlines)
+BadAt old left' line bytes = (newlines : ℕ) × IsBad old.hash bytes (IsEnd left') newlines
+    × (line ≡ line_number old newlines)
 
 -- The next request, or that there is none, or why it can't be given.
-abbrev pub Next : Reading → Reading → Option (List ℕ) → Option (List ℕ) → ℕ → ℕ → Result (Option Request) ScriptError → Type 0
-Next old new left left' faults faults' (Ok (Some request)) = IsRequest old.hash request × Moves old new left left' (spelling request)
+abbrev pub Next : Reading → Reading → Option (List ℕ) → Option (List ℕ)
+    → ℕ → ℕ → Result (Option Request) ScriptError → Type 0
+Next old new left left' faults faults' (Ok (Some request)) = IsRequest old.hash request
+    × Moves old new left left' (spelling request)
 Next old new left left' faults faults' (Ok None) = Moves old new left left' [] × (new.held ≡ []) × IsEnd left'
-Next old new left left' faults faults' (Err e) = Fails (Begins old.hash) (BadAt old left') old left left' faults faults' e
+Next old new left left' faults faults' (Err e) =
+    Fails (Begins old.hash) (BadAt old left') old left left' faults faults' e

@@ -31,11 +31,13 @@ pub record IsTag (hash : HashKind) (request : TagRequest) : Type 0 where
 
 -- A reference to be set, its target, and what it has to be before.
 abbrev pub ref_line : RefRequest → List ℕ
-ref_line request = codes "ref " ++ (request.name ++ 32 ∷ (target_text request.target ++ 32 ∷ expect_text request.expect))
+ref_line request =
+    codes "ref " ++ (request.name ++ 32 ∷ (target_text request.target ++ 32 ∷ expect_text request.expect))
 
 -- The committer may be left out.
 abbrev pub ref_items : RefRequest → List Item
-ref_items request = Line (ref_line request) ∷ (person_items committer_word request.committer ++ message_items request.message)
+ref_items request =
+    Line (ref_line request) ∷ (person_items committer_word request.committer ++ message_items request.message)
 
 -- The name is a full one.
 pub record IsRef (hash : HashKind) (request : RefRequest) : Type 0 where

@@ -13,7 +13,8 @@ use Rattle.gx_script.specs.Notes.{IsNote, IsNoteGet}
 use Rattle.gx_script.specs.References.{IsTag, IsRef, IsPrefix, IsNamespace}
 use Rattle.gx_script.specs.Spelling.{items_of, spelling}
 
--- The fields of a request have their forms: names are well-formed, ids are of the kind, numbers and counts within their limits.
+-- The fields of a request have their forms: names are well-formed, ids are of the kind, numbers and counts within
+-- their limits.
 abbrev pub IsForm : HashKind → Request → Type 0
 IsForm hash (Commit request) = IsCommit hash request
 IsForm hash (Identity who) = IsIdentity who

@@ -28,7 +28,8 @@ pub record TookOnto (most : ℕ) (old new : List ℕ) (left left' : Option (List
 -- Bytes were taken and added, or nothing was added.
 abbrev pub ReadOnto : ℕ → List ℕ → List ℕ → Option (List ℕ) → Option (List ℕ) → ℕ → ℕ → Result ℕ ScriptError → Type 0
 ReadOnto most old new left left' faults faults' (Ok count) = TookOnto most old new left left' count
-ReadOnto most old new left left' faults faults' (Err ReadFault) = (new ≡ old) × Takes left left' [] × Rose faults faults'
+ReadOnto most old new left left' faults faults' (Err ReadFault) =
+    (new ≡ old) × Takes left left' [] × Rose faults faults'
 ReadOnto most old new left left' faults faults' (Err NoMemory) = (new ≡ old) × Took most left left'
 ReadOnto most old new left left' faults faults' (Err TooLong) = ⊥
 ReadOnto most old new left left' faults faults' (Err (Malformed line)) = ⊥
@@ -51,7 +52,8 @@ ReadOne left left' faults faults' (Err (Malformed line)) = ⊥
 abbrev pub Filled : Reading → Reading → Option (List ℕ) → Option (List ℕ) → ℕ → ℕ → Result Bool ScriptError → Type 0
 Filled old new left left' faults faults' (Ok true) = Moves old new left left' [] × (length old.held < length new.held)
 Filled old new left left' faults faults' (Ok false) = Moves old new left left' [] × (new.held ≡ old.held) × IsEnd left'
-Filled old new left left' faults faults' (Err e) = Fails (λ bytes. bytes ≡ old.held) (λ line bytes. ⊥) old left left' faults faults' e
+Filled old new left left' faults faults' (Err e) =
+    Fails (λ bytes. bytes ≡ old.held) (λ line bytes. ⊥) old left left' faults faults' e
 
 -- The bytes are a line of this many bytes, its newline, and more.
 pub record BeginsLine (bytes : List ℕ) (count : ℕ) : Type 0 where
@@ -72,7 +74,8 @@ StopsPiece Ends Stop front [] = Ends front
 StopsPiece Ends Stop front (b ∷ more) = Stop front b
 
 -- A piece of a request goes wrong after a front that may stand there, which has this many newlines.
-pub record IsBadPiece (Part Ends : List ℕ → Type 0) (Stop : List ℕ → ℕ → Type 0) (bytes : List ℕ) (newlines : ℕ) : Type 0 where
+pub record IsBadPiece (Part Ends : List ℕ → Type 0) (Stop : List ℕ → ℕ → Type 0) (bytes : List ℕ) (newlines : ℕ)
+    : Type 0 where
   pub front : List ℕ
   pub more : List ℕ
   pub split : bytes ≡ front ++ more
@@ -82,30 +85,38 @@ pub record IsBadPiece (Part Ends : List ℕ → Type 0) (Stop : List ℕ → ℕ
 
 -- A piece goes wrong at the line.
 abbrev pub BadPieceAt : (List ℕ → Type 0) → (List ℕ → Type 0) → (List ℕ → ℕ → Type 0) → Reading → ℕ → List ℕ → Type 0
-BadPieceAt Part Ends Stop old line bytes = (newlines : ℕ) × IsBadPiece Part Ends Stop bytes newlines × (line ≡ line_number old newlines)
+BadPieceAt Part Ends Stop old line bytes = (newlines : ℕ) × IsBadPiece Part Ends Stop bytes newlines
+    × (line ≡ line_number old newlines)
 
 -- A line goes wrong at its newline, or at the first byte past its limit.
 abbrev pub LineStops : (List ℕ → Type 0) → List ℕ → ℕ → Type 0
 LineStops Wrong front b = ((b ≡ 10) × Wrong front) ⊎ ((b ≢ 10) × (length front ≡ line_limit))
 
 -- No line was read.
-abbrev pub LineFails : (List ℕ → Type 0) → (List ℕ → Type 0) → Reading → Option (List ℕ) → Option (List ℕ) → ℕ → ℕ → ScriptError → Type 0
-LineFails Ends Wrong old left left' faults faults' e = Fails IsPartialLine (BadPieceAt IsPartialLine Ends (LineStops Wrong) old) old left left' faults faults' e
+abbrev pub LineFails : (List ℕ → Type 0) → (List ℕ → Type 0) → Reading → Option (List ℕ) → Option (List ℕ)
+    → ℕ → ℕ → ScriptError → Type 0
+LineFails Ends Wrong old left left' faults faults' e =
+    Fails IsPartialLine (BadPieceAt IsPartialLine Ends (LineStops Wrong) old) old left left' faults faults' e
 
 -- No bytes have the property.
 abbrev pub Nothing : List ℕ → Type 0
 Nothing bytes = ⊥
 
 -- A whole line is held, or the input ends in one.
-abbrev pub FoundLine : Reading → Reading → Option (List ℕ) → Option (List ℕ) → ℕ → ℕ → Result (Option ℕ) ScriptError → Type 0
-FoundLine old new left left' faults faults' (Ok (Some count)) = Moves old new left left' [] × BeginsLine new.held count × (count ≤ line_limit)
-FoundLine old new left left' faults faults' (Ok None) = Moves old new left left' [] × IsPartialLine new.held × IsEnd left'
+abbrev pub FoundLine : Reading → Reading → Option (List ℕ) → Option (List ℕ)
+    → ℕ → ℕ → Result (Option ℕ) ScriptError → Type 0
+FoundLine old new left left' faults faults' (Ok (Some count)) =
+    Moves old new left left' [] × BeginsLine new.held count × (count ≤ line_limit)
+FoundLine old new left left' faults faults' (Ok None) =
+    Moves old new left left' [] × IsPartialLine new.held × IsEnd left'
 FoundLine old new left left' faults faults' (Err e) = LineFails Nothing Nothing old left left' faults faults' e
 
 -- A whole line is held.
 abbrev pub HasLine : Reading → Reading → Option (List ℕ) → Option (List ℕ) → ℕ → ℕ → Result ℕ ScriptError → Type 0
-HasLine old new left left' faults faults' (Ok count) = Moves old new left left' [] × BeginsLine new.held count × (count ≤ line_limit)
-HasLine old new left left' faults faults' (Err e) = LineFails (λ front. IsEnd left') Nothing old left left' faults faults' e
+HasLine old new left left' faults faults' (Ok count) =
+    Moves old new left left' [] × BeginsLine new.held count × (count ≤ line_limit)
+HasLine old new left left' faults faults' (Err e) =
+    LineFails (λ front. IsEnd left') Nothing old left left' faults faults' e
 
 -- A line was given, which spells something.
 pub record GivesLine (Spelled : List ℕ → Type 0) (old new : Reading) (left left' : Option (List ℕ)) : Type 0 where
@@ -116,15 +127,20 @@ pub record GivesLine (Spelled : List ℕ → Type 0) (old new : Reading) (left l
   pub moves : Moves old new left left' (ended line)
 
 -- What a line spells was read, or the line is wrong.
-abbrev pub ReadsLine : {X : Type 0} → (X → List ℕ → Type 0) → (List ℕ → Type 0) → Reading → Reading → Option (List ℕ) → Option (List ℕ) → ℕ → ℕ → Result X ScriptError → Type 0
+abbrev pub ReadsLine : {X : Type 0} → (X → List ℕ → Type 0) → (List ℕ → Type 0) → Reading → Reading
+    → Option (List ℕ) → Option (List ℕ) → ℕ → ℕ → Result X ScriptError → Type 0
 ReadsLine Spells Wrong old new left left' faults faults' (Ok x) = GivesLine (Spells x) old new left left'
-ReadsLine Spells Wrong old new left left' faults faults' (Err e) = LineFails (λ front. IsEnd left') Wrong old left left' faults faults' e
+ReadsLine Spells Wrong old new left left' faults faults' (Err e) =
+    LineFails (λ front. IsEnd left') Wrong old left left' faults faults' e
 
 -- A whole block and one more byte are held, or the input ends before.
-abbrev pub FoundBlock : ℕ → Reading → Reading → Option (List ℕ) → Option (List ℕ) → ℕ → ℕ → Result Bool ScriptError → Type 0
+abbrev pub FoundBlock : ℕ → Reading → Reading → Option (List ℕ) → Option (List ℕ)
+    → ℕ → ℕ → Result Bool ScriptError → Type 0
 FoundBlock count old new left left' faults faults' (Ok true) = Moves old new left left' [] × (count < length new.held)
-FoundBlock count old new left left' faults faults' (Ok false) = Moves old new left left' [] × (length new.held ≤ count) × IsEnd left'
-FoundBlock count old new left left' faults faults' (Err e) = Fails (λ bytes. length bytes ≤ count) (λ line bytes. ⊥) old left left' faults faults' e
+FoundBlock count old new left left' faults faults' (Ok false) =
+    Moves old new left left' [] × (length new.held ≤ count) × IsEnd left'
+FoundBlock count old new left left' faults faults' (Err e) =
+    Fails (λ bytes. length bytes ≤ count) (λ line bytes. ⊥) old left left' faults faults' e
 
 -- A block goes wrong where no newline stands after it.
 abbrev pub BlockStops : ℕ → List ℕ → ℕ → Type 0
@@ -132,11 +148,16 @@ BlockStops count front b = (length front ≡ count) × (b ≢ 10)
 
 -- No block was read.
 abbrev pub BlockFails : ℕ → Reading → Option (List ℕ) → Option (List ℕ) → ℕ → ℕ → ScriptError → Type 0
-BlockFails count old left left' faults faults' e = Fails (λ bytes. length bytes ≤ count) (BadPieceAt (λ bytes. length bytes ≤ count) (λ front. IsEnd left') (BlockStops count) old) old left left' faults faults' e
+BlockFails count old left left' faults faults' e =
+    Fails (λ bytes. length bytes ≤ count)
+    (BadPieceAt (λ bytes. length bytes ≤ count) (λ front. IsEnd left') (BlockStops count) old)
+    old left left' faults faults' e
 
 -- A block of this many bytes was read.
-abbrev pub ReadsBlock : ℕ → Reading → Reading → Option (List ℕ) → Option (List ℕ) → ℕ → ℕ → Result (List ℕ) ScriptError → Type 0
-ReadsBlock count old new left left' faults faults' (Ok block) = (length block ≡ count) × Moves old new left left' (ended block)
+abbrev pub ReadsBlock : ℕ → Reading → Reading → Option (List ℕ) → Option (List ℕ)
+    → ℕ → ℕ → Result (List ℕ) ScriptError → Type 0
+ReadsBlock count old new left left' faults faults' (Ok block) = (length block ≡ count)
+    × Moves old new left left' (ended block)
 ReadsBlock count old new left left' faults faults' (Err e) = BlockFails count old left left' faults faults' e
 
 -- A front of a buffer with nothing before it was cut off, or nothing was.

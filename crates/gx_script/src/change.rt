@@ -22,7 +22,8 @@ pub enum PutKind {
 impl PutKind {
     /// The kind that the bytes name.
     fn named(bytes: &[u8]) -> Option<PutKind>
-        ensures { MatchOption result ((kind : PutKind) → bytes.now ≡ put_word kind → ⊥) (λ kind. bytes.now ≡ put_word kind) }
+        ensures { MatchOption result ((kind : PutKind) → bytes.now ≡ put_word kind → ⊥)
+            (λ kind. bytes.now ≡ put_word kind) }
     {
         match bytes {
             b"file" => Some(PutKind::File),
@@ -63,7 +64,8 @@ pub enum Change {
 
 /// The kind, size and path in a line that puts something.
 fn put(line: &[u8]) -> Option<(PutKind, usize, &[u8])>
-    ensures { MatchOption result (IsNoPut line.now) (λ p. (p.1 ≤ block_limit) × (line.now ≡ put_line (put_word p.0) p.1 p.2.now)) }
+    ensures { MatchOption result (IsNoPut line.now)
+        (λ p. (p.1 ≤ block_limit) × (line.now ≡ put_line (put_word p.0) p.1 p.2.now)) }
 {
     let (word, digits, path) = triple(line, b"put ")?;
     let kind = PutKind::named(word)?;
@@ -74,7 +76,8 @@ fn put(line: &[u8]) -> Option<(PutKind, usize, &[u8])>
 /// The edit in a line that puts a submodule.
 fn module(alloc: Global, hash: HashKind, line: &[u8]) -> Result<Option<PathEdit>, NoMemory>
     requires { NoNewline line.now }
-    ensures { IfOk result (λ found. MatchOption found (IsNoModule hash line.now) (λ edit. SaysEdit hash edit line.now)) }
+    ensures { IfOk result (λ found. MatchOption found (IsNoModule hash line.now)
+        (λ edit. SaysEdit hash edit line.now)) }
 {
     let Some((hex, path)) = pair(line, b"module ") else {
         return Ok(None);
@@ -92,7 +95,8 @@ fn module(alloc: Global, hash: HashKind, line: &[u8]) -> Result<Option<PathEdit>
 /// The edit in a line that has no block.
 fn whole(alloc: Global, hash: HashKind, line: &[u8]) -> Result<Option<PathEdit>, NoMemory>
     requires { NoNewline line.now }
-    ensures { IfOk result (λ found. MatchOption found (IsNoModule hash line.now × IsNoDrop line.now) (λ edit. SaysEdit hash edit line.now)) }
+    ensures { IfOk result (λ found. MatchOption found (IsNoModule hash line.now × IsNoDrop line.now)
+        (λ edit. SaysEdit hash edit line.now)) }
 {
     if let Some(path) = after(line, b"drop ") {
         let path = Bytes::from_slice(alloc, path)?;
@@ -104,7 +108,8 @@ fn whole(alloc: Global, hash: HashKind, line: &[u8]) -> Result<Option<PathEdit>,
 /// What a line that edits says, where a block may have this many bytes.
 fn edit(alloc: Global, hash: HashKind, room: u64, line: &[u8]) -> Result<Option<Change>, NoMemory>
     requires { NoNewline line.now }
-    ensures { IfOk result (λ found. MatchOption found (IsNoEdit hash room line.now) (λ change. SaysChange hash 0 room change line.now)) }
+    ensures { IfOk result (λ found. MatchOption found (IsNoEdit hash room line.now)
+        (λ change. SaysChange hash 0 room change line.now)) }
 {
     if let Some((kind, size, path)) = put(line) {
         if size as u64 > room {
@@ -138,7 +143,8 @@ pub fn read_change(
     line: &[u8],
 ) -> Result<Option<Change>, NoMemory>
     requires { NoNewline line.now }
-    ensures { IfOk result (λ found. MatchOption found (IsNo (SaysChange hash count room) line.now) (λ change. SaysChange hash count room change line.now)) }
+    ensures { IfOk result (λ found. MatchOption found (IsNo (SaysChange hash count room) line.now)
+        (λ change. SaysChange hash count room change line.now)) }
 {
     if is_end(line) {
         return Ok(Some(Change::End));

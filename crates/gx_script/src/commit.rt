@@ -18,7 +18,8 @@ use gx_store::Source;
 
 /// Reads the parents, and how long the message is.
 fn parents<I: Source>(feed: &mut Feed, input: &mut I) -> Result<(Ids, usize), ScriptError>
-    ensures parents { ReadsFrom (AtParent 0) at_content parents_items (FitParents feed.old.hash) feed.old feed.new (I.left input.old) (I.left input.new) (I.faults input.old) (I.faults input.new) result }
+    ensures parents { ReadsFrom (AtParent 0) at_content parents_items (FitParents feed.old.hash) feed.old feed.new
+        (I.left input.old) (I.left input.new) (I.faults input.old) (I.faults input.new) result }
     ensures later { I.faults input.old ≤ I.faults input.new }
     ensures kind { feed.new.hash ≡ feed.old.hash }
 {
@@ -38,7 +39,9 @@ fn next_edit<I: Source>(
     room: &mut u64,
     input: &mut I,
 ) -> Result<Option<PathEdit>, ScriptError>
-    ensures edit { ReadsFrom (AtEdit count room.old) (behind_edit count room.new) found_items (FitsFound feed.old.hash count) feed.old feed.new (I.left input.old) (I.left input.new) (I.faults input.old) (I.faults input.new) result }
+    ensures edit { ReadsFrom (AtEdit count room.old) (behind_edit count room.new) found_items
+        (FitsFound feed.old.hash count) feed.old feed.new
+        (I.left input.old) (I.left input.new) (I.faults input.old) (I.faults input.new) result }
     ensures later { I.faults input.old ≤ I.faults input.new }
     ensures kind { feed.new.hash ≡ feed.old.hash }
 {
@@ -55,7 +58,8 @@ fn next_edit<I: Source>(
 
 /// Reads the edits, whose blocks may have this many bytes, and the end of the request.
 fn edits<I: Source>(feed: &mut Feed, most: u64, input: &mut I) -> Result<PathEdits, ScriptError>
-    ensures edits { ReadsFrom (AtEdit 0 most) at_over edits_items (FitEdits feed.old.hash) feed.old feed.new (I.left input.old) (I.left input.new) (I.faults input.old) (I.faults input.new) result }
+    ensures edits { ReadsFrom (AtEdit 0 most) at_over edits_items (FitEdits feed.old.hash) feed.old feed.new
+        (I.left input.old) (I.left input.new) (I.faults input.old) (I.faults input.new) result }
     ensures later { I.faults input.old ≤ I.faults input.new }
     ensures kind { feed.new.hash ≡ feed.old.hash }
 {
@@ -79,7 +83,8 @@ fn content<I: Source>(
     input: &mut I,
 ) -> Result<(Bytes, PathEdits), ScriptError>
     requires { size ≤ block_limit }
-    ensures content { ReadsFrom (AtContent size) at_over content_of (FitsContent feed.old.hash size) feed.old feed.new (I.left input.old) (I.left input.new) (I.faults input.old) (I.faults input.new) result }
+    ensures content { ReadsFrom (AtContent size) at_over content_of (FitsContent feed.old.hash size) feed.old feed.new
+        (I.left input.old) (I.left input.new) (I.faults input.old) (I.faults input.new) result }
     ensures later { I.faults input.old ≤ I.faults input.new }
     ensures kind { feed.new.hash ≡ feed.old.hash }
 {
@@ -94,7 +99,8 @@ pub fn commit<I: Source>(
     name: FullName,
     input: &mut I,
 ) -> Result<CommitRequest, ScriptError>
-    ensures commit { ReadsFrom AtAuthor at_over commit_tail (FitsCommit feed.old.hash name) feed.old feed.new (I.left input.old) (I.left input.new) (I.faults input.old) (I.faults input.new) result }
+    ensures commit { ReadsFrom AtAuthor at_over commit_tail (FitsCommit feed.old.hash name) feed.old feed.new
+        (I.left input.old) (I.left input.new) (I.faults input.old) (I.faults input.new) result }
     ensures later { I.faults input.old ≤ I.faults input.new }
     ensures kind { feed.new.hash ≡ feed.old.hash }
 {

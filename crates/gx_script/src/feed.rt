@@ -37,9 +37,16 @@ impl Model for Feed {
 
     ghost Value = { Reading };
 
-    ghost view = { λ r. record { hash = r.hash; held = drop r.start r.bytes.items; room = r.room; newlines = r.newlines; failed = r.failed } };
+    ghost view = { λ r. record {
+      hash = r.hash;
+      held = drop r.start r.bytes.items;
+      room = r.room;
+      newlines = r.newlines;
+      failed = r.failed;
+    } };
 
-    ghost invariant = { λ r. (r.start ≤ vec_len r.bytes) × (r.newlines + (vec_len r.bytes - r.start) + r.room < 2 ^ 64) };
+    ghost invariant = { λ r. (r.start ≤ vec_len r.bytes)
+        × (r.newlines + (vec_len r.bytes - r.start) + r.room < 2 ^ 64) };
 }
 
 /// Asks for one byte. False at the end.
@@ -54,7 +61,8 @@ fn read_one<I: Source>(input: &mut I) -> Result<bool, ScriptError>
 /// Reads up to this many bytes, and adds them to those that are there.
 fn read_onto<I: Source>(input: &mut I, bytes: &mut Vec<u8>, most: u64) -> Result<usize, ScriptError>
     requires { 0 < most }
-    ensures read { ReadOnto most bytes.old.items bytes.new.items (I.left input.old) (I.left input.new) (I.faults input.old) (I.faults input.new) result }
+    ensures read { ReadOnto most bytes.old.items bytes.new.items
+        (I.left input.old) (I.left input.new) (I.faults input.old) (I.faults input.new) result }
     ensures later { I.faults input.old ≤ I.faults input.new }
 {
     let mut chunk = [0u8; CHUNK];
@@ -93,7 +101,9 @@ fn newline_at(bytes: &[u8]) -> Option<usize>
 /// Cuts off the front of a buffer. It is the buffer itself: only the rest is copied.
 fn cut_front(alloc: Global, bytes: &mut Vec<u8>, count: usize) -> Result<Vec<u8>, NoMemory>
     requires { count ≤ vec_len bytes.old }
-    ensures { MatchResult result (λ front. (front.items ≡ take count bytes.old.items) × (bytes.new.items ≡ drop count bytes.old.items)) (λ _. bytes.new ≡ bytes.old) }
+    ensures { MatchResult result
+        (λ front. (front.items ≡ take count bytes.old.items) × (bytes.new.items ≡ drop count bytes.old.items))
+        (λ _. bytes.new ≡ bytes.old) }
 {
     let rest = Vec::from_slice(alloc, &bytes[count..])?;
     let mut front = mem::replace(bytes, rest);
@@ -184,7 +194,8 @@ impl Feed {
 
     /// Takes more bytes, within the limit as long as there is room. False at the end of the input.
     fn fill<I: Source>(&mut self, wanted: usize, input: &mut I) -> Result<bool, ScriptError>
-        ensures filled { Filled self.old self.new (I.left input.old) (I.left input.new) (I.faults input.old) (I.faults input.new) result }
+        ensures filled { Filled self.old self.new
+            (I.left input.old) (I.left input.new) (I.faults input.old) (I.faults input.new) result }
         ensures later { I.faults input.old ≤ I.faults input.new }
         ensures kind { self.new.hash ≡ self.old.hash }
     {
@@ -218,7 +229,8 @@ impl Feed {
 
     /// Takes bytes until a whole line is held, and answers how long it is. None where the input ends before.
     pub fn find_line<I: Source>(&mut self, input: &mut I) -> Result<Option<usize>, ScriptError>
-        ensures found { FoundLine self.old self.new (I.left input.old) (I.left input.new) (I.faults input.old) (I.faults input.new) result }
+        ensures found { FoundLine self.old self.new
+            (I.left input.old) (I.left input.new) (I.faults input.old) (I.faults input.new) result }
         ensures later { I.faults input.old ≤ I.faults input.new }
         ensures kind { self.new.hash ≡ self.old.hash }
     {
@@ -242,7 +254,8 @@ impl Feed {
 
     /// Takes bytes until a whole line is held, and answers how long it is.
     pub fn line<I: Source>(&mut self, input: &mut I) -> Result<usize, ScriptError>
-        ensures found { HasLine self.old self.new (I.left input.old) (I.left input.new) (I.faults input.old) (I.faults input.new) result }
+        ensures found { HasLine self.old self.new
+            (I.left input.old) (I.left input.new) (I.faults input.old) (I.faults input.new) result }
         ensures later { I.faults input.old ≤ I.faults input.new }
         ensures kind { self.new.hash ≡ self.old.hash }
     {
@@ -265,7 +278,8 @@ impl Feed {
     /// Takes bytes until more than `count` are held. False where the input ends before.
     fn find_block<I: Source>(&mut self, count: usize, input: &mut I) -> Result<bool, ScriptError>
         requires { count ≤ block_limit }
-        ensures found { FoundBlock count self.old self.new (I.left input.old) (I.left input.new) (I.faults input.old) (I.faults input.new) result }
+        ensures found { FoundBlock count self.old self.new
+            (I.left input.old) (I.left input.new) (I.faults input.old) (I.faults input.new) result }
         ensures later { I.faults input.old ≤ I.faults input.new }
         ensures kind { self.new.hash ≡ self.old.hash }
     {
@@ -280,7 +294,9 @@ impl Feed {
     /// Gives the bytes at the front of what is held as a block. A large block is the buffer itself.
     fn give_block(&mut self, count: usize) -> Result<Bytes, NoMemory>
         requires { count ≤ length self.old.held }
-        ensures { MatchResult result (λ block. (block ≡ take count self.old.held) × (self.new ≡ given self.old count)) (λ _. self.new ≡ self.old) }
+        ensures { MatchResult result
+            (λ block. (block ≡ take count self.old.held) × (self.new ≡ given self.old count))
+            (λ _. self.new ≡ self.old) }
     {
         if let Some(block) = cut_large(self.alloc, &mut self.bytes, self.start, count)? {
             self.newlines += newlines_of(&block);
@@ -294,7 +310,8 @@ impl Feed {
     /// Reads a block.
     pub fn block<I: Source>(&mut self, count: usize, input: &mut I) -> Result<Bytes, ScriptError>
         requires { count ≤ block_limit }
-        ensures block { ReadsBlock count self.old self.new (I.left input.old) (I.left input.new) (I.faults input.old) (I.faults input.new) result }
+        ensures block { ReadsBlock count self.old self.new
+            (I.left input.old) (I.left input.new) (I.faults input.old) (I.faults input.new) result }
         ensures later { I.faults input.old ≤ I.faults input.new }
         ensures kind { self.new.hash ≡ self.old.hash }
     {

@@ -19,7 +19,8 @@ use std::alloc::Global;
 
 /// The full name that the bytes are.
 pub fn full_name(alloc: Global, bytes: &[u8]) -> Result<Option<FullName>, NoMemory>
-    ensures { IfOk result (λ found. MatchOption found (IsFullName bytes.now → ⊥) (λ name. IsFullName name × (bytes.now ≡ name))) }
+    ensures { IfOk result (λ found. MatchOption found (IsFullName bytes.now → ⊥)
+        (λ name. IsFullName name × (bytes.now ≡ name))) }
 {
     match FullName::new(alloc, bytes) {
         Ok(name) => Ok(Some(name)),
@@ -30,7 +31,8 @@ pub fn full_name(alloc: Global, bytes: &[u8]) -> Result<Option<FullName>, NoMemo
 
 /// The partial name that the bytes are.
 pub fn partial_name(alloc: Global, bytes: &[u8]) -> Result<Option<PartialName>, NoMemory>
-    ensures { IfOk result (λ found. MatchOption found (IsPartialName bytes.now → ⊥) (λ name. IsPartialName name × (bytes.now ≡ name))) }
+    ensures { IfOk result (λ found. MatchOption found (IsPartialName bytes.now → ⊥)
+        (λ name. IsPartialName name × (bytes.now ≡ name))) }
 {
     match PartialName::new(alloc, bytes) {
         Ok(name) => Ok(Some(name)),
@@ -79,7 +81,9 @@ struct Who<'a> {
 /// The moment and the identity that the bytes spell.
 fn parse_who(bytes: &[u8]) -> Option<Who<'_>>
     requires { NoNewline bytes.now }
-    ensures { MatchOption result (IsNoWho [] bytes.now) (λ who. IsIdentity (signature_of who.time who.name.now who.email.now) × (bytes.now ≡ who_text (signature_of who.time who.name.now who.email.now))) }
+    ensures { MatchOption result (IsNoWho [] bytes.now)
+        (λ who. IsIdentity (signature_of who.time who.name.now who.email.now)
+        × (bytes.now ≡ who_text (signature_of who.time who.name.now who.email.now))) }
 {
     let (seconds, rest) = split_once(bytes, b' ')?;
     let (offset, rest) = split_once(rest, b' ')?;
@@ -97,7 +101,8 @@ fn parse_who(bytes: &[u8]) -> Option<Who<'_>>
 /// The identity in a line that begins with the word.
 pub fn identity(alloc: Global, word: &[u8], line: &[u8]) -> Result<Option<Signature>, NoMemory>
     requires { NoNewline line.now }
-    ensures { IfOk result (λ found. MatchOption found (IsNoWho word.now line.now) (λ who. IsIdentity who × (line.now ≡ word.now ++ who_text who))) }
+    ensures { IfOk result (λ found. MatchOption found (IsNoWho word.now line.now)
+        (λ who. IsIdentity who × (line.now ≡ word.now ++ who_text who))) }
 {
     let Some(rest) = after(line, word) else {
         return Ok(None);
@@ -129,7 +134,8 @@ pub fn block_size(bytes: &[u8]) -> Option<usize>
 
 /// The target that the bytes spell: an id, or `@` and a name.
 pub fn target(alloc: Global, hash: HashKind, bytes: &[u8]) -> Result<Option<Target>, NoMemory>
-    ensures { IfOk result (λ found. MatchOption found (IsNoTarget hash bytes.now) (λ target. IsTarget hash target × (bytes.now ≡ target_text target))) }
+    ensures { IfOk result (λ found. MatchOption found (IsNoTarget hash bytes.now)
+        (λ target. IsTarget hash target × (bytes.now ≡ target_text target))) }
 {
     if let Some(name) = after(bytes, b"@") {
         return match full_name(alloc, name)? {
@@ -145,7 +151,8 @@ pub fn target(alloc: Global, hash: HashKind, bytes: &[u8]) -> Result<Option<Targ
 
 /// What a reference has to be, as the bytes spell it.
 pub fn expect(alloc: Global, hash: HashKind, bytes: &[u8]) -> Result<Option<Expect>, NoMemory>
-    ensures { IfOk result (λ found. MatchOption found (IsNoExpect hash bytes.now) (λ expect. IsExpect hash expect × (bytes.now ≡ expect_text expect))) }
+    ensures { IfOk result (λ found. MatchOption found (IsNoExpect hash bytes.now)
+        (λ expect. IsExpect hash expect × (bytes.now ≡ expect_text expect))) }
 {
     if let Some(wanted) = after(bytes, b"=") {
         return match target(alloc, hash, wanted)? {
@@ -199,7 +206,8 @@ pub fn name_set(bytes: &[u8]) -> Option<NameSet>
 
 /// An id of a walk, hidden where `^` stands before it.
 pub fn walk_id(hash: HashKind, bytes: &[u8]) -> Option<WalkId>
-    ensures { MatchOption result (IsNoWalkId hash bytes.now) (λ walked. IsId hash walked.id × (bytes.now ≡ walk_id_text walked)) }
+    ensures { MatchOption result (IsNoWalkId hash bytes.now)
+        (λ walked. IsId hash walked.id × (bytes.now ≡ walk_id_text walked)) }
 {
     match after(bytes, b"^") {
         Some(hex) => Some(WalkId {

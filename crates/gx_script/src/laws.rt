@@ -11,7 +11,8 @@ ghost use Rattle.gx_script.specs.Spelling.{spelling};
 
 /// Bytes have at most one request at their front, so that no request's spelling begins another's.
 pub fn spelling_is_of_one_request()
-    ensures { (hash : HashKind) (r q : Request) (a b : List ℕ) → IsRequest hash r → IsRequest hash q → spelling r ++ a ≡ spelling q ++ b → (r ≡ q) × (a ≡ b) }
+    ensures { (hash : HashKind) (r q : Request) (a b : List ℕ) → IsRequest hash r → IsRequest hash q
+        → spelling r ++ a ≡ spelling q ++ b → (r ≡ q) × (a ≡ b) }
 {}
 
 /// Each request has bytes.
@@ -26,10 +27,13 @@ pub fn what_begins_has_no_whole_request()
 
 /// Bytes that go wrong do so before a request is whole.
 pub fn what_is_bad_has_no_whole_request()
-    ensures { (hash : HashKind) (bytes : List ℕ) (left : Option (List ℕ)) (newlines : ℕ) → IsBad hash bytes (IsEnd left) newlines → HasNoRequest hash bytes }
+    ensures { (hash : HashKind) (bytes : List ℕ) (left : Option (List ℕ)) (newlines : ℕ)
+        → IsBad hash bytes (IsEnd left) newlines → HasNoRequest hash bytes }
 {}
 
 /// A script has one list of requests, and one rest after them.
 pub fn a_script_is_read_one_way()
-    ensures { (hash : HashKind) (rs qs : List Request) (a b : List ℕ) → AllByRecursion (IsRequest hash) rs → AllByRecursion (IsRequest hash) qs → HasNoRequest hash a → HasNoRequest hash b → flat_map spelling rs ++ a ≡ flat_map spelling qs ++ b → (rs ≡ qs) × (a ≡ b) }
+    ensures { (hash : HashKind) (rs qs : List Request) (a b : List ℕ) → AllByRecursion (IsRequest hash) rs
+        → AllByRecursion (IsRequest hash) qs → HasNoRequest hash a → HasNoRequest hash b
+        → flat_map spelling rs ++ a ≡ flat_map spelling qs ++ b → (rs ≡ qs) × (a ≡ b) }
 {}

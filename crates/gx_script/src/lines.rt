@@ -45,7 +45,8 @@ const PARENT_LIMIT: usize = 1024;
 
 /// The id in the line of a parent.
 fn parent_id(hash: HashKind, count: usize, line: &[u8]) -> Option<ObjectId>
-    ensures { MatchOption result ((id : ObjectId) → SaysParent hash count (ParentLine.Parent id) line.now → ⊥) (λ id. SaysParent hash count (ParentLine.Parent id) line.now) }
+    ensures { MatchOption result ((id : ObjectId) → SaysParent hash count (ParentLine.Parent id) line.now → ⊥)
+        (λ id. SaysParent hash count (ParentLine.Parent id) line.now) }
 {
     if count >= PARENT_LIMIT {
         return None;
@@ -66,7 +67,8 @@ fn parent(hash: HashKind, count: usize, line: &[u8]) -> Option<ParentLine>
 /// The person in a line that begins with the word, or the length of the message.
 fn person(alloc: Global, word: &[u8], line: &[u8]) -> Result<Option<PersonLine>, NoMemory>
     requires { NoNewline line.now }
-    ensures { IfOk result (λ found. MatchOption found (IsNo (SaysPerson word.now) line.now) (λ next. SaysPerson word.now next line.now)) }
+    ensures { IfOk result (λ found. MatchOption found (IsNo (SaysPerson word.now) line.now)
+        (λ next. SaysPerson word.now next line.now)) }
 {
     if let Some(who) = identity(alloc, word, line)? {
         return Ok(Some(PersonLine::Who(who)));
@@ -79,7 +81,8 @@ fn person(alloc: Global, word: &[u8], line: &[u8]) -> Result<Option<PersonLine>,
 
 /// Reads the first line of a request. None where the input ends before it.
 pub fn first_line<I: Source>(feed: &mut Feed, input: &mut I) -> Result<Option<Opening>, ScriptError>
-    ensures line { ReadsFirst feed.old feed.new (I.left input.old) (I.left input.new) (I.faults input.old) (I.faults input.new) result }
+    ensures line { ReadsFirst feed.old feed.new
+        (I.left input.old) (I.left input.new) (I.faults input.old) (I.faults input.new) result }
     ensures later { I.faults input.old ≤ I.faults input.new }
     ensures kind { feed.new.hash ≡ feed.old.hash }
 {
@@ -102,7 +105,8 @@ pub fn who_line<I: Source>(
     word: &[u8],
     input: &mut I,
 ) -> Result<Signature, ScriptError>
-    ensures line { ReadsSaid (SaysWho word.now) feed.old feed.new (I.left input.old) (I.left input.new) (I.faults input.old) (I.faults input.new) result }
+    ensures line { ReadsSaid (SaysWho word.now) feed.old feed.new
+        (I.left input.old) (I.left input.new) (I.faults input.old) (I.faults input.new) result }
     ensures later { I.faults input.old ≤ I.faults input.new }
     ensures kind { feed.new.hash ≡ feed.old.hash }
 {
@@ -120,7 +124,8 @@ pub fn parent_line<I: Source>(
     count: usize,
     input: &mut I,
 ) -> Result<ParentLine, ScriptError>
-    ensures line { ReadsSaid (SaysParent feed.old.hash count) feed.old feed.new (I.left input.old) (I.left input.new) (I.faults input.old) (I.faults input.new) result }
+    ensures line { ReadsSaid (SaysParent feed.old.hash count) feed.old feed.new
+        (I.left input.old) (I.left input.new) (I.faults input.old) (I.faults input.new) result }
     ensures later { I.faults input.old ≤ I.faults input.new }
     ensures kind { feed.new.hash ≡ feed.old.hash }
 {
@@ -138,7 +143,8 @@ pub fn person_line<I: Source>(
     word: &[u8],
     input: &mut I,
 ) -> Result<PersonLine, ScriptError>
-    ensures line { ReadsSaid (SaysPerson word.now) feed.old feed.new (I.left input.old) (I.left input.new) (I.faults input.old) (I.faults input.new) result }
+    ensures line { ReadsSaid (SaysPerson word.now) feed.old feed.new
+        (I.left input.old) (I.left input.new) (I.faults input.old) (I.faults input.new) result }
     ensures later { I.faults input.old ≤ I.faults input.new }
     ensures kind { feed.new.hash ≡ feed.old.hash }
 {
@@ -152,7 +158,8 @@ pub fn person_line<I: Source>(
 
 /// Reads the line that announces a message, and answers how long that is.
 pub fn message_line<I: Source>(feed: &mut Feed, input: &mut I) -> Result<usize, ScriptError>
-    ensures line { ReadsSaid SaysMessage feed.old feed.new (I.left input.old) (I.left input.new) (I.faults input.old) (I.faults input.new) result }
+    ensures line { ReadsSaid SaysMessage feed.old feed.new
+        (I.left input.old) (I.left input.new) (I.faults input.old) (I.faults input.new) result }
     ensures later { I.faults input.old ≤ I.faults input.new }
     ensures kind { feed.new.hash ≡ feed.old.hash }
 {
@@ -171,7 +178,8 @@ pub fn change_line<I: Source>(
     room: u64,
     input: &mut I,
 ) -> Result<Change, ScriptError>
-    ensures line { ReadsSaid (SaysChange feed.old.hash count room) feed.old feed.new (I.left input.old) (I.left input.new) (I.faults input.old) (I.faults input.new) result }
+    ensures line { ReadsSaid (SaysChange feed.old.hash count room) feed.old feed.new
+        (I.left input.old) (I.left input.new) (I.faults input.old) (I.faults input.new) result }
     ensures later { I.faults input.old ≤ I.faults input.new }
     ensures kind { feed.new.hash ≡ feed.old.hash }
 {
@@ -186,7 +194,8 @@ pub fn change_line<I: Source>(
 
 /// Reads the last line of a request.
 pub fn end_line<I: Source>(feed: &mut Feed, input: &mut I) -> Result<(), ScriptError>
-    ensures line { ReadsLine (λ _ line. line ≡ end_line) (λ line. line ≢ end_line) feed.old feed.new (I.left input.old) (I.left input.new) (I.faults input.old) (I.faults input.new) result }
+    ensures line { ReadsLine (λ _ line. line ≡ end_line) (λ line. line ≢ end_line) feed.old feed.new
+        (I.left input.old) (I.left input.new) (I.faults input.old) (I.faults input.new) result }
     ensures later { I.faults input.old ≤ I.faults input.new }
     ensures kind { feed.new.hash ≡ feed.old.hash }
 {

@@ -14,7 +14,8 @@ use gx_store::Source;
 /// Reads a message of this many bytes, and the end of its request.
 fn text<I: Source>(feed: &mut Feed, size: usize, input: &mut I) -> Result<Bytes, ScriptError>
     requires { size ≤ block_limit }
-    ensures text { ReadsFrom (AtText size) at_over text_items (HasSize size) feed.old feed.new (I.left input.old) (I.left input.new) (I.faults input.old) (I.faults input.new) result }
+    ensures text { ReadsFrom (AtText size) at_over text_items (HasSize size) feed.old feed.new
+        (I.left input.old) (I.left input.new) (I.faults input.old) (I.faults input.new) result }
     ensures later { I.faults input.old ≤ I.faults input.new }
     ensures kind { feed.new.hash ≡ feed.old.hash }
 {
@@ -30,7 +31,8 @@ pub fn described<I: Source>(
     input: &mut I,
 ) -> Result<(Option<Signature>, Bytes), ScriptError>
     requires { IsPersonWord word.now }
-    ensures described { ReadsFrom (AtPerson word.now) at_over (described_items word.now) FitsDescribed feed.old feed.new (I.left input.old) (I.left input.new) (I.faults input.old) (I.faults input.new) result }
+    ensures described { ReadsFrom (AtPerson word.now) at_over (described_items word.now) FitsDescribed feed.old feed.new
+        (I.left input.old) (I.left input.new) (I.faults input.old) (I.faults input.new) result }
     ensures later { I.faults input.old ≤ I.faults input.new }
     ensures kind { feed.new.hash ≡ feed.old.hash }
 {

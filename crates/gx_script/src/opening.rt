@@ -42,7 +42,8 @@ fn one_line(alloc: Global, hash: HashKind, line: &[u8]) -> Result<Option<Request
 }
 
 fn commit_opening(alloc: Global, hash: HashKind, line: &[u8]) -> Result<Option<Opening>, NoMemory>
-    ensures { IfOk result (λ found. MatchOption found (IsNoCommit line.now) (λ opening. SaysOpening hash opening line.now)) }
+    ensures { IfOk result (λ found. MatchOption found (IsNoCommit line.now)
+        (λ opening. SaysOpening hash opening line.now)) }
 {
     let _ = hash;
     let Some(name) = after(line, b"commit ") else {
@@ -56,7 +57,8 @@ fn commit_opening(alloc: Global, hash: HashKind, line: &[u8]) -> Result<Option<O
 
 fn tag_opening(alloc: Global, hash: HashKind, line: &[u8]) -> Result<Option<Opening>, NoMemory>
     requires { NoNewline line.now }
-    ensures { IfOk result (λ found. MatchOption found (IsNoTag hash line.now) (λ opening. SaysOpening hash opening line.now)) }
+    ensures { IfOk result (λ found. MatchOption found (IsNoTag hash line.now)
+        (λ opening. SaysOpening hash opening line.now)) }
 {
     let Some((name, hex, word)) = triple(line, b"tag ") else {
         return Ok(None);
@@ -75,7 +77,8 @@ fn tag_opening(alloc: Global, hash: HashKind, line: &[u8]) -> Result<Option<Open
 }
 
 fn ref_opening(alloc: Global, hash: HashKind, line: &[u8]) -> Result<Option<Opening>, NoMemory>
-    ensures { IfOk result (λ found. MatchOption found (IsNoRef hash line.now) (λ opening. SaysOpening hash opening line.now)) }
+    ensures { IfOk result (λ found. MatchOption found (IsNoRef hash line.now)
+        (λ opening. SaysOpening hash opening line.now)) }
 {
     let Some((name, aim, wanted)) = triple(line, b"ref ") else {
         return Ok(None);
@@ -93,7 +96,8 @@ fn ref_opening(alloc: Global, hash: HashKind, line: &[u8]) -> Result<Option<Open
 }
 
 fn note_opening(alloc: Global, hash: HashKind, line: &[u8]) -> Result<Option<Opening>, NoMemory>
-    ensures { IfOk result (λ found. MatchOption found (IsNoNoteSet hash line.now) (λ opening. SaysOpening hash opening line.now)) }
+    ensures { IfOk result (λ found. MatchOption found (IsNoNoteSet hash line.now)
+        (λ opening. SaysOpening hash opening line.now)) }
 {
     let Some((name, hex, digits)) = triple(line, b"note-set ") else {
         return Ok(None);
@@ -113,7 +117,8 @@ fn note_opening(alloc: Global, hash: HashKind, line: &[u8]) -> Result<Option<Ope
 /// What the first line of a request says.
 pub fn read_opening(alloc: Global, hash: HashKind, line: &[u8]) -> Result<Option<Opening>, NoMemory>
     requires { NoNewline line.now }
-    ensures { IfOk result (λ found. MatchOption found (IsNo (SaysOpening hash) line.now) (λ opening. SaysOpening hash opening line.now)) }
+    ensures { IfOk result (λ found. MatchOption found (IsNo (SaysOpening hash) line.now)
+        (λ opening. SaysOpening hash opening line.now)) }
 {
     if let Some(opening) = commit_opening(alloc, hash, line)? {
         return Ok(Some(opening));

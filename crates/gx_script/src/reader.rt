@@ -36,7 +36,8 @@ impl Model for ScriptReader {
 /// Reads what stands after the first line of a request.
 fn rest<I: Source>(feed: &mut Feed, opening: Opening, input: &mut I) -> Result<Request, ScriptError>
     requires { IsOpening feed.old.hash opening }
-    ensures rest { ReadsBehind opening feed.old feed.new (I.left input.old) (I.left input.new) (I.faults input.old) (I.faults input.new) result }
+    ensures rest { ReadsBehind opening feed.old feed.new
+        (I.left input.old) (I.left input.new) (I.faults input.old) (I.faults input.new) result }
     ensures later { I.faults input.old ≤ I.faults input.new }
     ensures kind { feed.new.hash ≡ feed.old.hash }
 {
@@ -77,7 +78,8 @@ fn rest<I: Source>(feed: &mut Feed, opening: Opening, input: &mut I) -> Result<R
 impl ScriptReader {
     /// A reader of a script with ids of the kind, and with at most `limit` bytes.
     pub fn new(alloc: Global, hash: HashKind, limit: u64) -> Result<ScriptReader, NoMemory>
-        ensures { IfOk result (λ reader. reader ≡ record { hash = hash; held = []; room = limit; newlines = 0; failed = None }) }
+        ensures { IfOk result (λ reader. reader
+            ≡ record { hash = hash; held = []; room = limit; newlines = 0; failed = None }) }
     {
         Ok(ScriptReader {
             feed: Feed::new(alloc, hash, limit),
@@ -86,7 +88,8 @@ impl ScriptReader {
 
     /// Reads a request. None where the input ends before it.
     fn request<I: Source>(&mut self, input: &mut I) -> Result<Option<Request>, ScriptError>
-        ensures next { Next self.old self.new (I.left input.old) (I.left input.new) (I.faults input.old) (I.faults input.new) result }
+        ensures next { Next self.old self.new
+            (I.left input.old) (I.left input.new) (I.faults input.old) (I.faults input.new) result }
         ensures later { I.faults input.old ≤ I.faults input.new }
         ensures kind { self.new.hash ≡ self.old.hash }
     {
@@ -99,11 +102,13 @@ impl ScriptReader {
 
     /// The next request, or None at the end of the script. After an `Err` each call answers the same and takes nothing.
     pub fn next<I: Source>(&mut self, input: &mut I) -> Result<Option<Request>, ScriptError>
-        ensures next { self.old.failed ≡ None → Next self.old self.new (I.left input.old) (I.left input.new) (I.faults input.old) (I.faults input.new) result }
+        ensures next { self.old.failed ≡ None → Next self.old self.new
+            (I.left input.old) (I.left input.new) (I.faults input.old) (I.faults input.new) result }
         ensures later { I.faults input.old ≤ I.faults input.new }
         ensures kind { self.new.hash ≡ self.old.hash }
         ensures refused { IfErr result (λ e. self.new.failed ≡ Some e) }
-        ensures again { (e : ScriptError) → self.old.failed ≡ Some e → (result ≡ Err e) × (self.new ≡ self.old) × (input.new ≡ input.old) }
+        ensures again { (e : ScriptError) → self.old.failed ≡ Some e
+            → (result ≡ Err e) × (self.new ≡ self.old) × (input.new ≡ input.old) }
     {
         if let Some(error) = self.feed.failed() {
             return Err(error);

@@ -20,7 +20,8 @@ pub fn ids(
     bytes: &[u8],
     most: usize,
 ) -> Result<Option<Vec<ObjectId>>, NoMemory>
-    ensures { IfOk result (λ found. MatchOption found (AreNotSpaced hex_of (IsId hash) most bytes.now) (λ ids. AreSpaced hex_of (IsId hash) most bytes.now ids.items)) }
+    ensures { IfOk result (λ found. MatchOption found (AreNotSpaced hex_of (IsId hash) most bytes.now)
+        (λ ids. AreSpaced hex_of (IsId hash) most bytes.now ids.items)) }
 {
     let mut ids = Vec::new(alloc);
     let mut rest = bytes;
@@ -47,7 +48,9 @@ pub fn walk_ids(
     bytes: &[u8],
     most: usize,
 ) -> Result<Option<Vec<WalkId>>, NoMemory>
-    ensures { IfOk result (λ found. MatchOption found (AreNotSpaced walk_id_text (λ (walked : WalkId). IsId hash walked.id) most bytes.now) (λ ids. AreSpaced walk_id_text (λ (walked : WalkId). IsId hash walked.id) most bytes.now ids.items)) }
+    ensures { IfOk result (λ found. MatchOption found
+        (AreNotSpaced walk_id_text (λ (walked : WalkId). IsId hash walked.id) most bytes.now)
+        (λ ids. AreSpaced walk_id_text (λ (walked : WalkId). IsId hash walked.id) most bytes.now ids.items)) }
 {
     let mut ids = Vec::new(alloc);
     let mut rest = bytes;
@@ -70,7 +73,9 @@ pub fn walk_ids(
 /// The fields of the bytes.
 pub fn patterns(alloc: Global, bytes: &[u8]) -> Result<Option<Vec<Bytes>>, NoMemory>
     requires { NoNewline bytes.now }
-    ensures { IfOk result (λ found. MatchOption found (AreNotSpaced (λ (field : List ℕ). field) IsField (length bytes.now) bytes.now) (λ fields. AreSpaced (λ (field : List ℕ). field) IsField (length bytes.now) bytes.now fields.items)) }
+    ensures { IfOk result (λ found. MatchOption found
+        (AreNotSpaced (λ (field : List ℕ). field) IsField (length bytes.now) bytes.now)
+        (λ fields. AreSpaced (λ (field : List ℕ). field) IsField (length bytes.now) bytes.now fields.items)) }
 {
     let mut fields = Vec::new(alloc);
     let mut rest = bytes;

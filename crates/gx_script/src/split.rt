@@ -37,7 +37,8 @@ pub fn pair<'a>(line: &'a [u8], word: &[u8]) -> Option<(&'a [u8], &'a [u8])>
 
 /// Two fields after the word, and what stands after their spaces.
 pub fn triple<'a>(line: &'a [u8], word: &[u8]) -> Option<(&'a [u8], &'a [u8], &'a [u8])>
-    ensures { MatchOption result (IsNoTriple word.now line.now) (λ p. IsTriple word.now line.now p.0.now p.1.now p.2.now) }
+    ensures { MatchOption result (IsNoTriple word.now line.now)
+        (λ p. IsTriple word.now line.now p.0.now p.1.now p.2.now) }
 {
     let (first, rest) = pair(line, word)?;
     let (second, rest) = split_once(rest, b' ')?;

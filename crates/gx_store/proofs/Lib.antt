@@ -4,7 +4,10 @@ pub mod ContentLemmas
 pub mod Growth
 pub mod Keys
 pub mod KindLemmas
+pub mod Listings
+pub mod LogLemmas
 pub mod MapLemmas
 pub mod OutsideLemmas
 pub mod Prefixes
 pub mod SlotLemmas
+pub mod WrittenLines

@@ -1,5 +1,5 @@
 -- Maps that are kept as entries.
-use Rattle.std.proofs.Common.{◌≡◌, ◌∙◌, sym, ap, refl, subst, cond, List, [], ◌∷◌, Some}
+use Rattle.std.proofs.Common.{◌≡◌, ◌∙◌, sym, ap, refl, subst, cond, List, [], ◌∷◌, ℕ, Some, None, is_some, IsSome}
 use Rattle.std.specs.declared.cmp.Ordering.{Ordering}
 use Rattle.std.specs.BTreeMap.{is_at}
 use Rattle.std.specs.Cmp.{IsTotalOrder, eq_by_cmp_equiv}
@@ -7,6 +7,8 @@ use Rattle.std.specs.Map.{lookup}
 use Rattle.gx_rules.specs.Name.{name_cmp}
 use Rattle.gx_hash.specs.ObjectId.{id_cmp}
 use Rattle.gx_hash.specs.declared.oid.ObjectId.{ObjectId}
+use Rattle.gx_object.specs.declared.kind.Kind.{Kind}
+use Rattle.gx_store.specs.Content.{with_object}
 use Rattle.gx_hash.specs.Laws.{id_cmp_total, id_cmp-IsAntisymmetric, derived_cmp-id_cmp}
 use Rattle.gx_hash.specs.ObjectIds.{derived_cmp}
 use Rattle.std.specs.FinMap.{IsAntisymmetric, slice_cmp-IsAntisymmetric, nat_cmp-IsAntisymmetric, find, get, insert, from_entries, get-from_entries, get-insert, same_map}
@@ -33,6 +35,15 @@ get_object es q = get_kept id_cmp_total es q ∙ ap (λ R. lookup (is_at (R q)) 
 pub inserted_object : {X : Type 0} (es fs : List (ObjectId × X)) (k : ObjectId) (v : X) → ((q : ObjectId) → lookup (is_at (derived_cmp q)) fs ≡ cond (is_at (derived_cmp k) q) (Some v) (lookup (is_at (derived_cmp q)) es)) → from_entries {R = id_cmp} fs ≡ insert (from_entries es) k v
 inserted_object es fs k v h = inserted id_cmp_total id_cmp-IsAntisymmetric es fs k v
     (subst (λ R. (q : ObjectId) → lookup (is_at (R q)) fs ≡ cond (is_at (R k) q) (Some v) (lookup (is_at (R q)) es)) derived_cmp-id_cmp h)
+
+-- an object that is put unless its id is there
+pub object_kept : (es fs : List (ObjectId × (Kind × List ℕ))) (k : ObjectId) (v : Kind × List ℕ) → fs ≡ es → IsSome (lookup (is_at (derived_cmp k)) es) → from_entries {R = id_cmp} fs ≡ with_object k v (from_entries es)
+object_kept es fs k v e h = ap (λ gs. from_entries {R = id_cmp} gs) e
+    ∙ sym (ap (λ b. cond b (from_entries {R = id_cmp} es) (insert (from_entries es) k v)) (ap is_some (get_object es k) ∙ h))
+
+pub object_added : (es fs : List (ObjectId × (Kind × List ℕ))) (k : ObjectId) (v : Kind × List ℕ) → ((q : ObjectId) → lookup (is_at (derived_cmp q)) fs ≡ cond (is_at (derived_cmp k) q) (Some v) (lookup (is_at (derived_cmp q)) es)) → lookup (is_at (derived_cmp k)) es ≡ None → from_entries {R = id_cmp} fs ≡ with_object k v (from_entries es)
+object_added es fs k v u h = inserted_object es fs k v u
+    ∙ sym (ap (λ b. cond b (from_entries {R = id_cmp} es) (insert (from_entries es) k v)) (ap is_some (get_object es k) ∙ ap is_some h))
 
 -- names that compare as equal are one
 pub exact_names : IsAntisymmetric name_cmp

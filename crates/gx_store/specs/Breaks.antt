@@ -23,6 +23,7 @@ Fails false old new = new ≡ old
 abbrev pub fresh_refs : RefState
 fresh_refs = record { targets = insert empty (codes "HEAD") (Symbolic (codes "refs/heads/main")); logs = empty }
 
+-- The state of a new repository tells all, can read all, and has counted no fault.
 abbrev pub fresh : HashKind → StoreState
 fresh hash = record {
   hash = hash;
@@ -56,16 +57,19 @@ or_listing test Index = test Index
 or_listing test Listing = true
 or_listing test Write = test Write
 
--- the state in which an object can't be read, a name, or the listing, besides what couldn't be before
+-- the state in which an object can't be read, besides what couldn't be before
 abbrev pub with_broken_object : ObjectId → StoreState → StoreState
 with_broken_object id state = record state { unreadable = or_object id state.unreadable }
 
+-- the same of a name
 abbrev pub with_broken_name : List ℕ → StoreState → StoreState
 with_broken_name name state = record state { unreadable = or_name name state.unreadable }
 
+-- the same of the listing
 abbrev pub with_broken_listing : StoreState → StoreState
 with_broken_listing state = record state { unreadable = or_listing state.unreadable }
 
 -- the state with an object at an id, whatever was there, and whatever the id is the digest of
 abbrev pub with_object_put : ObjectId → Kind × List ℕ → StoreState → StoreState
-with_object_put id object state = record state { content = option_map (λ (c : Content). insert c id object) state.content }
+with_object_put id object state =
+    record state { content = option_map (λ (c : Content). insert c id object) state.content }

@@ -12,6 +12,7 @@ pub record Calls : Type 0 where
   -- whether the nth fails, counted from 1
   pub fails : ℕ → Bool
 
+-- the calls of a store in memory
 abbrev pub calls_of : Memory → Calls
 calls_of m = record { made = m.calls; fails = λ n. list_any (λ y. nat_eq y n) m.failing.items }
 

@@ -18,7 +18,8 @@ target_after target_change.Keep target = target
 target_after (target_change.Set new) target = Some new
 target_after target_change.Remove target = None
 
--- A log is kept, made longer by a line at its end, or removed; a line makes a missing log. (git-update-ref, "Logging updates")
+-- A log is kept, made longer by a line at its end, or removed; a line makes a missing log.
+-- (git-update-ref, "Logging updates")
 abbrev pub log_after : LogAct → Option (List LogLine) → Option (List LogLine)
 log_after log_act.Keep log = log
 log_after (log_act.Append line) log = Some (unwrap_or log [] ++ line ∷ [])
@@ -36,10 +37,12 @@ with_log name log_act.Keep logs = logs
 with_log name (log_act.Append line) logs = insert logs name (unwrap_or (get logs name) [] ++ line ∷ [])
 with_log name log_act.Remove logs = remove logs name
 
+-- the targets after changes, made in order
 abbrev pub targets_after : List RefChange → FinMap name_cmp Target → FinMap name_cmp Target
 targets_after [] targets = targets
 targets_after (change ∷ changes) targets = targets_after changes (with_target change.name change.target targets)
 
+-- the logs after changes, made in order
 abbrev pub logs_after : List RefChange → FinMap name_cmp (List LogLine) → FinMap name_cmp (List LogLine)
 logs_after [] logs = logs
 logs_after (change ∷ changes) logs = logs_after changes (with_log change.name change.log logs)
@@ -55,12 +58,16 @@ applied changes state = record state { references = option_map (refs_after chang
 -- No name is changed twice in a transaction. (Git, refs.c, "multiple updates for ref")
 abbrev pub HaveDistinctNames : List RefChange → Type 0
 HaveDistinctNames [] = Unit {0}
-HaveDistinctNames (change ∷ changes) = AllByRecursion (λ other. other.name ≢ change.name) changes × HaveDistinctNames changes
+HaveDistinctNames (change ∷ changes) =
+    AllByRecursion (λ other. other.name ≢ change.name) changes × HaveDistinctNames changes
 
--- A change of many references that is cut short leaves at each name the target and the log from before, or those that the changes make.
+-- A change of many references that is cut short leaves at each name the target and the log from before, or those that
+-- the changes make. (Ours; git-update-ref, "--stdin", promises all or none only of names that are locked)
 pub record IsTorn (changes : List RefChange) (old new : RefState) : Type 0 where
-  pub targets : (name : List ℕ) → (get new.targets name ≡ get old.targets name) ⊎ (get new.targets name ≡ get (targets_after changes old.targets) name)
-  pub logs : (name : List ℕ) → (get new.logs name ≡ get old.logs name) ⊎ (get new.logs name ≡ get (logs_after changes old.logs) name)
+  pub targets : (name : List ℕ) → (get new.targets name ≡ get old.targets name)
+      ⊎ (get new.targets name ≡ get (targets_after changes old.targets) name)
+  pub logs : (name : List ℕ) → (get new.logs name ≡ get old.logs name)
+      ⊎ (get new.logs name ≡ get (logs_after changes old.logs) name)
 
 -- After a fault of `apply` references are torn at worst, and nothing else has changed.
 pub record AfterFault (changes : List RefChange) (old new : StoreState) : Type 0 where

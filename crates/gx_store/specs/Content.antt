@@ -20,6 +20,7 @@ Content = FinMap id_cmp (Kind × List ℕ)
 abbrev pub lookup : Content → ObjectId → Option (Kind × List ℕ)
 lookup content id = option_or (get content id) (if id_eq id (empty_tree_id (kind_of id)) then Some (Tree, []) else None)
 
+-- An object is there where the look-up finds one.
 abbrev pub IsStored : Content → ObjectId → Type 0
 IsStored content id = IsSome (lookup content id)
 
@@ -38,12 +39,14 @@ with_object id object content = if contains_key content id then content else ins
 -- the content after objects are written in order, each under its id
 abbrev pub with_objects : HashKind → List (Kind × List ℕ) → Content → Content
 with_objects hash [] content = content
-with_objects hash (object ∷ objects) content = with_objects hash objects (with_object (id_of hash object) object content)
+with_objects hash (object ∷ objects) content =
+    with_objects hash objects (with_object (id_of hash object) object content)
 
 -- the first of the objects that has the id
 abbrev pub object_at : HashKind → List (Kind × List ℕ) → ObjectId → Option (Kind × List ℕ)
 object_at hash [] id = None
-object_at hash (object ∷ objects) id = if id_eq (id_of hash object) id then Some object else object_at hash objects id
+object_at hash (object ∷ objects) id =
+    if id_eq (id_of hash object) id then Some object else object_at hash objects id
 
 -- At each id there is what was there, or else the first of the objects with that id.
 abbrev pub Adds : HashKind → List (Kind × List ℕ) → Content → Content → Type 0
@@ -52,7 +55,9 @@ Adds hash objects old new = (id : ObjectId) → get new id ≡ option_or (get ol
 -- Of objects with one id each is the same.
 abbrev pub AreOfOwnIds : HashKind → List (Kind × List ℕ) → Type 0
 AreOfOwnIds hash [] = Unit {0}
-AreOfOwnIds hash (object ∷ objects) = AllByRecursion (λ other. id_of hash other ≡ id_of hash object → other ≡ object) objects × AreOfOwnIds hash objects
+AreOfOwnIds hash (object ∷ objects) =
+    AllByRecursion (λ other. id_of hash other ≡ id_of hash object → other ≡ object) objects
+    × AreOfOwnIds hash objects
 
 -- Git relies on no two objects sharing a digest, and on none having the null id. This says it of some objects and a
 -- content.

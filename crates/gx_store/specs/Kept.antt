@@ -6,5 +6,6 @@ use Rattle.gx_hash.specs.declared.oid.ObjectId.{ObjectId}
 use Rattle.gx_object.specs.declared.kind.Kind.{Kind}
 use Rattle.gx_store.specs.Content.{Content}
 
+-- the content of a tree map
 abbrev pub content_of : BTreeMap ObjectId (Kind × List ℕ) → Content
 content_of map = from_entries map.entries

@@ -26,14 +26,17 @@ IsTargetOfKind hash (target.Symbolic name) = Unit {0}
 abbrev pub IsLineOfKind : HashKind → LogLine → Type 0
 IsLineOfKind hash line = IsOfKind hash line.previous × IsOfKind hash line.new
 
+-- So are those of each line of a log.
 abbrev pub AreLinesOfKind : HashKind → List LogLine → Type 0
 AreLinesOfKind hash lines = AllByRecursion (IsLineOfKind hash) lines
 
+-- A new target is of the kind.
 abbrev pub IsTargetChangeOfKind : HashKind → TargetChange → Type 0
 IsTargetChangeOfKind hash target_change.Keep = Unit {0}
 IsTargetChangeOfKind hash (target_change.Set new) = IsTargetOfKind hash new
 IsTargetChangeOfKind hash target_change.Remove = Unit {0}
 
+-- So is a new line.
 abbrev pub IsActOfKind : HashKind → LogAct → Type 0
 IsActOfKind hash log_act.Keep = Unit {0}
 IsActOfKind hash (log_act.Append line) = IsLineOfKind hash line
@@ -41,11 +44,14 @@ IsActOfKind hash log_act.Remove = Unit {0}
 
 -- Each id in the changes is of the kind.
 abbrev pub AreChangesOfKind : HashKind → List RefChange → Type 0
-AreChangesOfKind hash changes = AllByRecursion (λ change. IsTargetChangeOfKind hash change.target × IsActOfKind hash change.log) changes
+AreChangesOfKind hash changes =
+    AllByRecursion (λ change. IsTargetChangeOfKind hash change.target × IsActOfKind hash change.log) changes
 
 -- Each id in targets and logs is of the kind.
 unfoldable pub AreRefsOfKind : HashKind → RefState → Type 0
-AreRefsOfKind hash refs = ((name : List ℕ) → IfSome (get refs.targets name) (IsTargetOfKind hash)) × ((name : List ℕ) → IfSome (get refs.logs name) (AreLinesOfKind hash))
+AreRefsOfKind hash refs =
+    ((name : List ℕ) → IfSome (get refs.targets name) (IsTargetOfKind hash))
+    × ((name : List ℕ) → IfSome (get refs.logs name) (AreLinesOfKind hash))
 
 -- ---- these are facts: no two proofs of one differ
 
@@ -62,10 +68,13 @@ IsTargetOfKind-prop hash (target.Symbolic name) = Unit-prop
 
 AreLinesOfKind-prop : (hash : HashKind) (lines : List LogLine) → IsProp (AreLinesOfKind hash lines)
 AreLinesOfKind-prop hash [] = Unit-prop
-AreLinesOfKind-prop hash (line ∷ lines) = ×_prop (×_prop (HashKind-set _ _) (HashKind-set _ _)) (AreLinesOfKind-prop hash lines)
+AreLinesOfKind-prop hash (line ∷ lines) =
+    ×_prop (×_prop (HashKind-set _ _) (HashKind-set _ _)) (AreLinesOfKind-prop hash lines)
 
 pub AreRefsOfKind-prop : (hash : HashKind) (refs : RefState) → IsProp (AreRefsOfKind hash refs)
 unfolding AreRefsOfKind
 AreRefsOfKind-prop hash refs = ×_prop
-    (λ p q i name. IfSome-prop (get refs.targets name) (IsTargetOfKind hash) (IsTargetOfKind-prop hash) (p name) (q name) i)
-    (λ p q i name. IfSome-prop (get refs.logs name) (AreLinesOfKind hash) (AreLinesOfKind-prop hash) (p name) (q name) i)
+    (λ p q i name.
+    IfSome-prop (get refs.targets name) (IsTargetOfKind hash) (IsTargetOfKind-prop hash) (p name) (q name) i)
+    (λ p q i name.
+    IfSome-prop (get refs.logs name) (AreLinesOfKind hash) (AreLinesOfKind-prop hash) (p name) (q name) i)

@@ -13,37 +13,57 @@ use Rattle.gx_store.specs.declared.error.What.{What}
 
 -- Writing an object whose id is there changes nothing.
 abbrev pub WritesOnce : Type 0
-WritesOnce = (id : ObjectId) (object : Kind × List ℕ) (state : StoreState) → IfSome state.content (λ content. IsTrue (contains_key content id)) → stored id object state ≡ state
+WritesOnce =
+    (id : ObjectId) (object : Kind × List ℕ) (state : StoreState)
+    → IfSome state.content (λ content. IsTrue (contains_key content id)) → stored id object state ≡ state
 
 -- Writing objects adds them, and keeps what was there.
 abbrev pub WritingAdds : Type 0
-WritingAdds = (hash : HashKind) (objects : List (Kind × List ℕ)) (content : Content) → Adds hash objects content (with_objects hash objects content)
+WritingAdds =
+    (hash : HashKind) (objects : List (Kind × List ℕ)) (content : Content)
+    → Adds hash objects content (with_objects hash objects content)
 
 -- What is added by one after the other is added together.
 abbrev pub AddsTogether : Type 0
-AddsTogether = (hash : HashKind) (first second : List (Kind × List ℕ)) (old middle new : Content) → Adds hash first old middle → Adds hash second middle new → Adds hash (first ++ second) old new
+AddsTogether =
+    (hash : HashKind) (first second : List (Kind × List ℕ)) (old middle new : Content) → Adds hash first old middle
+    → Adds hash second middle new → Adds hash (first ++ second) old new
 
 -- Objects that share no digest are all found once they were added.
 abbrev pub AddedIsFound : Type 0
-AddedIsFound = (hash : HashKind) (objects : List (Kind × List ℕ)) (old new : Content) → AreApart hash old objects → Adds hash objects old new → HoldsAll hash objects new
+AddedIsFound =
+    (hash : HashKind) (objects : List (Kind × List ℕ)) (old new : Content) → AreApart hash old objects
+    → Adds hash objects old new → HoldsAll hash objects new
 
 -- What is found stays found, as it is.
 abbrev pub FoundStays : Type 0
-FoundStays = (hash : HashKind) (objects : List (Kind × List ℕ)) (old new : Content) → AreApart hash old objects → Adds hash objects old new → (id : ObjectId) → IfSome (lookup old id) (λ object. lookup new id ≡ Some object)
+FoundStays =
+    (hash : HashKind) (objects : List (Kind × List ℕ)) (old new : Content) → AreApart hash old objects
+    → Adds hash objects old new → (id : ObjectId) → IfSome (lookup old id) (λ object. lookup new id ≡ Some object)
 
 -- What is stored under an id stays under it, whatever is added.
 abbrev pub StoredStays : Type 0
-StoredStays = (hash : HashKind) (objects : List (Kind × List ℕ)) (old new : Content) → Adds hash objects old new → (id : ObjectId) (object : Kind × List ℕ) → get old id ≡ Some object → get new id ≡ Some object
+StoredStays =
+    (hash : HashKind) (objects : List (Kind × List ℕ)) (old new : Content) → Adds hash objects old new
+    → (id : ObjectId) (object : Kind × List ℕ) → get old id ≡ Some object → get new id ≡ Some object
 
 -- A name that no change names keeps its target and its log.
 abbrev pub OthersAreKept : Type 0
-OthersAreKept = (changes : List RefChange) (refs : RefState) (name : List ℕ) → AllByRecursion (λ change. change.name ≢ name) changes
-    → (get (refs_after changes refs).targets name ≡ get refs.targets name) × (get (refs_after changes refs).logs name ≡ get refs.logs name)
+OthersAreKept =
+    (changes : List RefChange) (refs : RefState) (name : List ℕ)
+    → AllByRecursion (λ change. change.name ≢ name) changes
+    → (get (refs_after changes refs).targets name ≡ get refs.targets name)
+    × (get (refs_after changes refs).logs name ≡ get refs.logs name)
 
 -- Of changes with distinct names each is made.
 abbrev pub EachIsMade : Type 0
-EachIsMade = (changes : List RefChange) (refs : RefState) → HaveDistinctNames changes
-    → AllByRecursion (λ change. (get (refs_after changes refs).targets change.name ≡ target_after change.target (get refs.targets change.name)) × (get (refs_after changes refs).logs change.name ≡ log_after change.log (get refs.logs change.name))) changes
+EachIsMade =
+    (changes : List RefChange) (refs : RefState) → HaveDistinctNames changes
+    → AllByRecursion (λ change.
+    (get (refs_after changes refs).targets change.name
+    ≡ target_after change.target (get refs.targets change.name))
+    × (get (refs_after changes refs).logs change.name ≡ log_after change.log (get refs.logs change.name)))
+    changes
 
 -- ---- what becomes of a state that has become what was wanted
 
@@ -53,16 +73,24 @@ SameAfter = (wanted middle new : StoreState) → Becomes wanted middle → Becom
 
 -- Changes make of it what they make of what was wanted.
 abbrev pub AppliedAfter : Type 0
-AppliedAfter = (changes : List RefChange) (wanted middle new : StoreState) → Becomes wanted middle → Becomes (applied changes middle) new → Becomes (applied changes wanted) new
+AppliedAfter =
+    (changes : List RefChange) (wanted middle new : StoreState) → Becomes wanted middle
+    → Becomes (applied changes middle) new → Becomes (applied changes wanted) new
 
 -- So do objects that are written.
 abbrev pub StoredAfter : Type 0
-StoredAfter = (objects : List (Kind × List ℕ)) (wanted middle new : StoreState) → Becomes wanted middle → Becomes (all_stored objects middle) new → Becomes (all_stored objects wanted) new
+StoredAfter =
+    (objects : List (Kind × List ℕ)) (wanted middle new : StoreState) → Becomes wanted middle
+    → Becomes (all_stored objects middle) new → Becomes (all_stored objects wanted) new
 
 -- A fault that was counted since it was counted since what was wanted.
 abbrev pub CauseAfter : Type 0
-CauseAfter = (wanted middle new : StoreState) (fault : What) → Becomes wanted middle → HasCause middle new fault → HasCause wanted new fault
+CauseAfter =
+    (wanted middle new : StoreState) (fault : What) → Becomes wanted middle → HasCause middle new fault
+    → HasCause wanted new fault
 
 -- What a fault of changes leaves of it is left of what was wanted.
 abbrev pub FaultAfter : Type 0
-FaultAfter = (changes : List RefChange) (wanted middle new : StoreState) → Becomes wanted middle → AfterFault changes middle new → AfterFault changes wanted new
+FaultAfter =
+    (changes : List RefChange) (wanted middle new : StoreState) → Becomes wanted middle
+    → AfterFault changes middle new → AfterFault changes wanted new

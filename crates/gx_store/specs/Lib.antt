@@ -9,6 +9,8 @@ pub mod Headers
 pub mod Kept
 pub mod Kinds
 pub mod Laws
+pub mod Listing
+pub mod LogText
 pub mod Memory
 pub mod MemoryEnds
 pub mod Outside

@@ -25,9 +25,11 @@ abbrev pub parts : {K X Y : Type 0} {R : K → K → Ordering} → (X → Option
 parts part [] = empty
 parts part (e ∷ es) = with_at (parts part es) e.0 (part e.1)
 
+-- the target that a slot has
 abbrev pub target_in : Slot → Option Target
 target_in slot = slot.target
 
+-- the log that a slot has
 abbrev pub log_in : Slot → Option (List LogLine)
 log_in slot = if slot.has_log then Some slot.lines.items else None
 
@@ -63,4 +65,7 @@ AreReady map changes = AllByRecursion (λ change. HasRoom map change.name (room_
 
 -- the references and logs after one change
 abbrev pub with_change : RefChange → RefState → RefState
-with_change change refs = record { targets = with_target change.name change.target refs.targets; logs = with_log change.name change.log refs.logs }
+with_change change refs = record {
+  targets = with_target change.name change.target refs.targets;
+  logs = with_log change.name change.log refs.logs;
+}

@@ -17,7 +17,8 @@ fn first_with_prefix(
     map: &BTreeMap<Bytes, Slot>,
     prefix: &[u8],
 ) -> Result<Option<FullName>, NoMemory>
-    ensures { IfOk result (λ found. found ≡ slice_get (filter (λ name. starts_with nat_eq name prefix.now) (keys (refs_of map.now).targets)) 0) }
+    ensures { IfOk result (λ found. found
+        ≡ slice_get (filter (λ name. starts_with nat_eq name prefix.now) (keys (refs_of map.now).targets)) 0) }
 {
     let from = Bytes::from_slice(alloc, prefix)?;
     for (name, slot) in map.range(from..) {
@@ -40,8 +41,10 @@ fn reference_above(
     at: usize,
 ) -> Result<Option<FullName>, NoMemory>
     requires { at < length name.now }
-    ensures some { IfOk result (λ found. IfSome found (λ other. IsProperPrefix other name.now × IsSome (get (refs_of map.now).targets other))) }
-    ensures none { IfOk result (λ found. IfNone found ((other : List ℕ) → IsProperPrefix other name.now → length other ≡ at → get (refs_of map.now).targets other ≡ None)) }
+    ensures some { IfOk result (λ found. IfSome found (λ other. IsProperPrefix other name.now
+        × IsSome (get (refs_of map.now).targets other))) }
+    ensures none { IfOk result (λ found. IfNone found ((other : List ℕ) → IsProperPrefix other name.now
+        → length other ≡ at → get (refs_of map.now).targets other ≡ None)) }
 {
     if name[at] != b'/' {
         return Ok(None);
@@ -61,8 +64,10 @@ fn conflict_above(
     map: &BTreeMap<Bytes, Slot>,
     name: &[u8],
 ) -> Result<Option<FullName>, NoMemory>
-    ensures some { IfOk result (λ found. IfSome found (λ other. IsProperPrefix other name.now × IsSome (get (refs_of map.now).targets other))) }
-    ensures none { IfOk result (λ found. IfNone found ((other : List ℕ) → IsProperPrefix other name.now → get (refs_of map.now).targets other ≡ None)) }
+    ensures some { IfOk result (λ found. IfSome found (λ other. IsProperPrefix other name.now
+        × IsSome (get (refs_of map.now).targets other))) }
+    ensures none { IfOk result (λ found. IfNone found ((other : List ℕ) → IsProperPrefix other name.now
+        → get (refs_of map.now).targets other ≡ None)) }
 {
     for at in 0..name.len() {
         if let Some(found) = reference_above(alloc, map, name, at)? {
@@ -79,8 +84,10 @@ fn conflict_below(
     map: &BTreeMap<Bytes, Slot>,
     name: &[u8],
 ) -> Result<Option<FullName>, NoMemory>
-    ensures some { IfOk result (λ found. IfSome found (λ other. IsProperPrefix name.now other × IsSome (get (refs_of map.now).targets other))) }
-    ensures none { IfOk result (λ found. IfNone found ((other : List ℕ) → IsProperPrefix name.now other → get (refs_of map.now).targets other ≡ None)) }
+    ensures some { IfOk result (λ found. IfSome found (λ other. IsProperPrefix name.now other
+        × IsSome (get (refs_of map.now).targets other))) }
+    ensures none { IfOk result (λ found. IfNone found ((other : List ℕ) → IsProperPrefix name.now other
+        → get (refs_of map.now).targets other ≡ None)) }
 {
     let mut directory = Vec::with_capacity(alloc, name.len().saturating_add(1))?;
     directory.extend_from_slice(name)?;

@@ -1,5 +1,11 @@
 //! Laws of what is stored and of what changes make, for proofs about stores. The functions do nothing.
 ghost use Rattle.gx_store.specs.Laws.{WritesOnce, WritingAdds, AddsTogether, AddedIsFound, FoundStays, StoredStays, OthersAreKept, EachIsMade, SameAfter, AppliedAfter, StoredAfter, CauseAfter, FaultAfter};
+ghost use Rattle.gx_hash.specs.declared.kind.HashKind.{HashKind};
+ghost use Rattle.gx_store.specs.LogText.{line_bytes, SpellsLine, CanWriteLine};
+
+use crate::LogLine;
+use gx_hash::laws::id_has_digits;
+use gx_object::laws::written_identity_is_read;
 
 /// Writing an object whose id is there changes nothing.
 #[tactic(auto, using(crate::proofs::ContentLemmas::writes_once))]
@@ -55,3 +61,12 @@ pub fn after()
     ensures cause { CauseAfter }
     ensures fault { FaultAfter }
 {}
+
+/// What is written of a line of a log spells it, so it is read as it was.
+pub fn written_line_is_read(line: &LogLine)
+    ensures { (hash : HashKind) → CanWriteLine hash line.now → SpellsLine hash (line_bytes line.now) line.now }
+{
+    id_has_digits(&line.previous);
+    id_has_digits(&line.new);
+    written_identity_is_read();
+}

@@ -29,7 +29,7 @@ mod writing;
 pub use calls::Calls;
 pub use change::{LogAct, RefChange, TargetChange};
 pub use error::{StoreError, What};
-pub use log_line::{Lines, LogLine};
+pub use log_line::{LineError, Lines, LogLine, push_log_line};
 pub use memory::Memory;
 pub use memory_sink::MemorySink;
 pub use memory_source::MemorySource;

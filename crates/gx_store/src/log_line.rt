@@ -1,9 +1,15 @@
-ghost use Rattle.std.specs.Prelude.{◌≡◌, ◌∷◌, ◌++◌, [], IfOk, OnOk, OnErr};
+//! Lines of reflogs.
+ghost use Rattle.std.specs.Prelude.{◌≡◌, [], IfOk};
 
+mod decode;
+mod write;
+
+pub use decode::LineError;
 use gx_hash::{Bytes, NoMemory, ObjectId};
 use gx_object::Signature;
 use std::alloc::Global;
 use std::marker::Model;
+pub use write::push_log_line;
 
 /// A line of a reference's log: what its target was and became, by whom, and why.
 #[derive(Debug, Drop)]

@@ -1,13 +1,16 @@
 // Objects in a tree map.
 ghost use Rattle.std.specs.Prelude.{◌≡◌, IfOk, OnOk, OnErr, option_map};
 ghost use Rattle.std.specs.FinMap.{get, insert, contains_key};
+ghost use Rattle.gx_store.specs.Content.{with_object};
 ghost use Rattle.gx_store.specs.Headers.{header_of};
 ghost use Rattle.gx_store.specs.Kept.{content_of};
 
 use crate::Header;
 use gx_hash::{Bytes, NoMemory, ObjectId};
 use gx_object::Kind;
+use std::alloc::Global;
 use std::collections::BTreeMap;
+use std::collections::btree_map::Entry;
 
 fn copy_of(object: &(Kind, Bytes)) -> Result<(Kind, Bytes), NoMemory>
     ensures { IfOk result (λ copy. copy ≡ object.now) }
@@ -66,4 +69,25 @@ pub(crate) fn put_object(
 {
     map.insert(id, (kind, bytes))?;
     Ok(())
+}
+
+/// Puts a copy of an object at an id, unless one is there. It searches once, and copies only where it puts.
+pub(crate) fn add_object(
+    map: &mut BTreeMap<ObjectId, (Kind, Bytes)>,
+    alloc: Global,
+    id: ObjectId,
+    kind: Kind,
+    bytes: &[u8],
+) -> Result<(), NoMemory>
+    ensures ok { OnOk result (content_of map.new ≡ with_object id (kind, bytes.now) (content_of map.old)) }
+    ensures err { OnErr result (content_of map.new ≡ content_of map.old) }
+{
+    match map.entry(id)? {
+        Entry::Occupied(_) => Ok(()),
+        Entry::Vacant(place) => {
+            let bytes = Bytes::from_slice(alloc, bytes)?;
+            place.insert((kind, bytes));
+            Ok(())
+        }
+    }
 }

@@ -100,7 +100,8 @@ impl Memory {
     /// From now on there are these bytes at the id, whatever was there, and whatever the id is the digest of.
     #[tactic(auto, unfolding(crate::specs::Memory::memory_state))]
     pub fn put_raw(&mut self, id: ObjectId, kind: Kind, bytes: &[u8]) -> Result<(), NoMemory>
-        ensures ok { OnOk result (memory_state self.new ≡ with_object_put id (kind, bytes.now) (memory_state self.old)) }
+        ensures ok { OnOk result (memory_state self.new
+            ≡ with_object_put id (kind, bytes.now) (memory_state self.old)) }
         ensures err { OnErr result (memory_state self.new ≡ memory_state self.old) }
         ensures calls { calls_of self.new ≡ calls_of self.old }
     {
@@ -108,7 +109,7 @@ impl Memory {
         maps::put_object(&mut self.objects, id, kind, bytes)
     }
 
-    /// The nth of the calls of `write` and `apply` fails and changes nothing. They are counted from 1, and from the start.
+    /// The nth of the calls of `write` and `apply` fails and changes nothing. They are counted from 1, since the start.
     #[tactic(auto, unfolding(crate::specs::Memory::memory_state))]
     pub fn fail_write(&mut self, nth: u64) -> Result<(), NoMemory>
         ensures state { memory_state self.new ≡ memory_state self.old }
@@ -200,11 +201,7 @@ impl Memory {
         ensures err { OnErr result (memory_state self.new ≡ memory_state self.old) }
         ensures calls { calls_of self.new ≡ calls_of self.old }
     {
-        if maps::has_object(&self.objects, &id) {
-            return Ok(());
-        }
-        let bytes = Bytes::from_slice(alloc, bytes)?;
-        maps::put_object(&mut self.objects, id, kind, bytes)
+        maps::add_object(&mut self.objects, alloc, id, kind, bytes)
     }
 
     /// Makes all the changes, or none.
@@ -284,7 +281,8 @@ impl Objects for Memory {
         bytes: &[u8],
     ) -> Result<(), StoreError>
         requires { id ≡ object_id (memory_state self.old).hash (kind_name kind) bytes.now }
-        ensures ok { OnOk result (Becomes (stored id (kind, bytes.now) (memory_state self.old)) (memory_state self.new)) }
+        ensures ok { OnOk result (Becomes
+            (stored id (kind, bytes.now) (memory_state self.old)) (memory_state self.new)) }
         ensures err { OnErr result (Becomes (memory_state self.old) (memory_state self.new)) }
         ensures fault { IfFault result (HasCause (memory_state self.old) (memory_state self.new)) }
         ensures due { is_fault result ≡ is_due (calls_of self.old) }
@@ -304,6 +302,7 @@ impl References for Memory {
     ghost use Rattle.std.specs.FinMap.{get, contains_key, keys};
     ghost use Rattle.gx_store.specs.Memory.{memory_state};
     ghost use Rattle.gx_store.specs.Conflict.{Conflict, IsFree};
+    ghost use Rattle.gx_store.specs.Listing.{IsListing};
     ghost use Rattle.gx_store.specs.Kinds.{IsTargetOfKind, AreLinesOfKind};
     ghost use Rattle.gx_store.specs.State.{Becomes, HasCause, IfFault, IsUnreadable};
     ghost use Rattle.gx_store.specs.declared.error.What.TheVariants as part;
@@ -359,6 +358,7 @@ impl References for Memory {
     fn list(&self, alloc: Global, prefix: &[u8]) -> Result<Names, StoreError>
         ensures found { IfOk result (λ names. IfSome (memory_state self.now).references (λ refs.
             names ≡ filter (λ name. starts_with nat_eq name prefix.now) (keys refs.targets))) }
+        ensures listing { IfOk result (IsListing prefix.now) }
         ensures fault { IfFault result (IsUnreadable (memory_state self.now) part.Listing) }
         ensures broken { is_fault result ≡ (memory_state self.now).unreadable part.Listing }
     {

@@ -24,7 +24,13 @@ impl Model for MemorySource {
 
     ghost Value = { MemorySourceState };
 
-    ghost view = { λ s. record { left = drop s.place s.bytes.items; most = s.most; failing = s.failing; calls = s.calls; faults = s.faults } };
+    ghost view = { λ s. record {
+      left = drop s.place s.bytes.items;
+      most = s.most;
+      failing = s.failing;
+      calls = s.calls;
+      faults = s.faults;
+    } };
 
     ghost invariant = { λ s. (s.place ≤ vec_len s.bytes) × (0 < s.most) };
 }

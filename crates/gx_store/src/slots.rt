@@ -1,5 +1,6 @@
 // References and logs, in one slot a name.
-// A change is made in two steps. The first makes slots and room, which changes no meaning and may fail; the second can't fail.
+// A change is made in two steps. The first makes slots and room, which changes no meaning and may fail; the second
+// can't fail.
 ghost use Rattle.std.specs.Prelude.{◌≡◌, ◌≢◌, true, false, IfSome, None, ℕ, IfOk, OnOk, OnErr, IsSome, is_some, filter, nat_eq, option_map};
 ghost use Rattle.std.specs.List.{starts_with};
 ghost use Rattle.std.specs.FinMap as finite;
@@ -263,7 +264,8 @@ pub(crate) fn change(
     requires { HaveDistinctNames changes.now }
     ensures ok { OnOk result (refs_of map.new ≡ refs_after changes.now (refs_of map.old)) }
     ensures err { OnErr result (refs_of map.new ≡ refs_of map.old) }
-    ensures kinds { (hash : HashKind) → AreChangesOfKind hash changes.now → AreRefsOfKind hash (refs_of map.old) → AreRefsOfKind hash (refs_of map.new) }
+    ensures kinds { (hash : HashKind) → AreChangesOfKind hash changes.now → AreRefsOfKind hash (refs_of map.old)
+        → AreRefsOfKind hash (refs_of map.new) }
 {
     let copies = prepare(alloc, map, changes)?;
     make_changes(map, copies);
@@ -286,7 +288,8 @@ pub(crate) fn names_of(
     map: &BTreeMap<Bytes, Slot>,
     prefix: &[u8],
 ) -> Result<Names, NoMemory>
-    ensures { IfOk result (λ names. names ≡ filter (λ name. starts_with nat_eq name prefix.now) (finite.keys (refs_of map.now).targets)) }
+    ensures { IfOk result (λ names. names
+        ≡ filter (λ name. starts_with nat_eq name prefix.now) (finite.keys (refs_of map.now).targets)) }
 {
     let from = Bytes::from_slice(alloc, prefix)?;
     let mut names = Vec::new(alloc);

@@ -8,6 +8,7 @@ ghost use Rattle.gx_store.specs.State.{StoreState, Becomes, HasCause, IfFault, I
 ghost use Rattle.gx_store.specs.Kinds.{AreChangesOfKind, IsTargetOfKind, AreLinesOfKind};
 ghost use Rattle.gx_store.specs.Change.{applied, HaveDistinctNames, AfterFault};
 ghost use Rattle.gx_store.specs.Conflict.{Conflict, IsFree};
+ghost use Rattle.gx_store.specs.Listing.{IsListing};
 ghost use Rattle.gx_store.specs.declared.error.What.TheVariants as part;
 ghost use Rattle.gx_store.specs.declared.error.StoreError.TheVariants.{NoMemory as no_memory};
 
@@ -100,10 +101,12 @@ pub trait References: Meanings {
             IsFree refs.targets name.now))) }
         ensures fault { IfFault result (IsUnreadable (Self.state self.now) part.Listing) };
 
-    /// The names of references that begin with the prefix, in rising order of bytes. A log alone is not listed.
+    /// The names of references that begin with the prefix, in rising order of bytes. A log alone is not listed. Also a
+    /// store that tells nothing gives no other names, and in that order.
     fn list(&self, alloc: Global, prefix: &[u8]) -> Result<Names, StoreError>
         ensures found { IfOk result (λ names. IfSome (Self.state self.now).references (λ refs.
             names ≡ filter (λ name. starts_with nat_eq name prefix.now) (keys refs.targets))) }
+        ensures listing { IfOk result (IsListing prefix.now) }
         ensures fault { IfFault result (IsUnreadable (Self.state self.now) part.Listing) };
 
     /// Makes all the changes. Where memory runs out it makes none; a fault may leave each of them made or not.

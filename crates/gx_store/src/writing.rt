@@ -33,7 +33,8 @@ pub fn write_objects<S: Objects>(
     objects: &[(Kind, Bytes)],
 ) -> Result<(), StoreError>
     ensures ok { OnOk result (Becomes (all_stored objects.now (S.state store.old)) (S.state store.new)) }
-    ensures err { OnErr result ((n : ℕ) × (n < length objects.now) × Becomes (all_stored (take n objects.now) (S.state store.old)) (S.state store.new)) }
+    ensures err { OnErr result ((n : ℕ) × (n < length objects.now)
+        × Becomes (all_stored (take n objects.now) (S.state store.old)) (S.state store.new)) }
     ensures fault { IfFault result (HasCause (S.state store.old) (S.state store.new)) }
 {
     for object in objects {

@@ -1,29 +1,30 @@
 -- A run goes on by one request, or ends.
-use Rattle.std.proofs.Common.{◌≡◌, ◌≢◌, ◌∙◌, sym, ap, refl, subst, ℕ, ◌+◌, ◌≤◌, ◌<◌, List, [], ◌∷◌, ◌++◌, length, Option, None, arith, append_assoc, length-append, Bool, true, false, inl, inr}
+use Rattle.std.proofs.Common.{◌≡◌, ◌≢◌, ◌∙◌, sym, ap, refl, subst, ℕ, ◌+◌, ◌≤◌, ◌<◌, List, [], ◌∷◌, ◌++◌, length, Option, Some, None, arith, append_assoc, length-append, Bool, true, false, inl, inr}
 use Rattle.std.specs.Prelude.{◌&&◌}
 use Rattle.std.specs.List.{flat_map, AllByRecursion}
 use Rattle.std.proofs.lemmas.List.{append-nil}
 use Rattle.std.proofs.lemmas.List.Folds.{list_all-append}
 use Rattle.std.proofs.lemmas.Grind.{flat_map-append}
 use Rattle.gx_tool.specs.declared.reply.Reply.{Reply}
-use Rattle.gx_tool.specs.declared.reply.Reply.TheVariants.{Committed, Refused}
+use Rattle.gx_tool.specs.declared.reply.Reply.TheVariants.{Accepted, Refused}
+use Rattle.gx_tool.specs.declared.answer.Answer.{Answer}
+use Rattle.gx_tool.specs.declared.answer.Answer.TheVariants.{Id, Log}
 use Rattle.gx_tool.specs.declared.status.Status.{Status}
 use Rattle.gx_tool.specs.declared.status.Status.TheVariants.{Done, Refusals, Malformed, ReadFault, WriteFault, NoMemory, StoreFault, TooLong}
 use Rattle.gx_hash.specs.declared.kind.HashKind.{HashKind}
-use Rattle.gx_store.specs.State.{StoreState}
+use Rattle.gx_store.specs.declared.log_line.LogLine.{LogLine}
 use Rattle.gx_store.specs.Faults.{Rose}
 use Rattle.gx_store.specs.Outside.{Takes, IsEnd, Writes}
 use Rattle.gx_script.specs.declared.request.Request.{Request}
-use Rattle.gx_script.specs.declared.request.Request.TheVariants.{Commit, Identity, Tag, Ref, Delete, Refs, Log, Paths, Walk, Bases, Octopus, Describe, NoteSet, NoteDrop, NoteGet, Head, Namespace}
+use Rattle.gx_script.specs.declared.request.Request.TheVariants as form
 use Rattle.gx_script.specs.Items.{Item, Line, Block, items_text}
 use Rattle.gx_script.specs.Spelling.{items_of, spelling}
 use Rattle.gx_script.specs.Script.{IsRequest, Begins, IsBad}
 use Rattle.gx_script.specs.Reading.{Reading, Moves, Stays, Overruns, BadAt, Anything}
-use Rattle.gix.specs.declared.settings.Settings.{Settings}
-use Rattle.gix.specs.Machine.{WhereTold}
+use Rattle.gix.specs.Held.{Held, HeldTold}
 use Rattle.gx_tool.specs.Machine.{Run, IsReply}
 use Rattle.gx_tool.specs.Serving.{Serves, ServesAll, Stops}
-use Rattle.gx_tool.specs.Reply.{texts, reply_text, all_accepted, is_accepted}
+use Rattle.gx_tool.specs.Reply.{texts, reply_text, answer_text, log_text, log_line_text, count_text, all_accepted, is_accepted}
 use Rattle.gx_tool.specs.declared.executing.ExecuteError.{ExecuteError}
 use Rattle.gx_tool.specs.declared.executing.ExecuteError.TheVariants as no_reply
 use Rattle.gx_store.specs.declared.error.What.{What}
@@ -35,33 +36,32 @@ use Rattle.gx_tool.proofs.OutsideLemmas.{takes_none, takes_then, writes_none, wr
 pub record SoFar (limit : ℕ) (start now : Moment) (reading : Reading) (accepted : Bool) : Type 0 where
   pub requests : List Request
   pub replies : List Reply
-  pub course : Course start now requests replies reading.held (texts replies) now.store
+  pub course : Course start now requests replies reading.held (texts replies) now.held
   pub room : taken_count requests reading.held + reading.room ≡ limit
-  pub machine : WhereTold (λ o n. Run start.settings o requests replies n) start.store now.store
+  pub machine : HeldTold (λ o n. Run o requests replies n) start.held now.held
   pub all : all_accepted replies ≡ accepted
-  pub settings : now.settings ≡ start.settings
   pub fine : reading.failed ≡ None
-  pub kind : reading.hash ≡ start.store.hash
+  pub kind : reading.hash ≡ start.held.store.hash
   pub source_later : start.source_faults ≤ now.source_faults
   pub sink_later : start.sink_faults ≤ now.sink_faults
 
-run_more : (settings : Settings) (old mid new : StoreState) (requests : List Request) (replies : List Reply) (request : Request) (reply : Reply) → ServesAll settings old requests replies mid → Serves settings mid request reply new → ServesAll settings old (requests ++ request ∷ []) (replies ++ reply ∷ []) new
+run_more : (old mid new : Held) (requests : List Request) (replies : List Reply) (request : Request) (reply : Reply) → ServesAll old requests replies mid → Serves mid request reply new → ServesAll old (requests ++ request ∷ []) (replies ++ reply ∷ []) new
 unfolding ServesAll
-run_more settings old mid new [] [] request reply h s = (new, subst (λ o. Serves settings o request reply new) h s, refl)
-run_more settings old mid new [] (r ∷ rs) request reply h s = absurd h
-run_more settings old mid new (q ∷ qs) [] request reply h s = absurd h
-run_more settings old mid new (q ∷ qs) (r ∷ rs) request reply h s = (h.0, h.1, run_more settings h.0 mid new qs rs request reply h.2 s)
+run_more old mid new [] [] request reply h s = (new, subst (λ o. Serves o request reply new) h s, refl)
+run_more old mid new [] (r ∷ rs) request reply h s = absurd h
+run_more old mid new (q ∷ qs) [] request reply h s = absurd h
+run_more old mid new (q ∷ qs) (r ∷ rs) request reply h s = (h.0, h.1, run_more h.0 mid new qs rs request reply h.2 s)
 
-run_none : (settings : Settings) (store : StoreState) → ServesAll settings store [] [] store
+run_none : (held : Held) → ServesAll held [] [] held
 unfolding ServesAll
-run_none settings store = refl
+run_none held = refl
 
 each_more : (hash : HashKind) (requests : List Request) (request : Request) → AllByRecursion (IsRequest hash) requests → IsRequest hash request → AllByRecursion (IsRequest hash) (requests ++ request ∷ [])
 each_more hash [] request h r = (r, tt)
 each_more hash (q ∷ qs) request h r = (h.0, each_more hash qs request h.1 r)
 
 -- the reader gives requests of the store's kind
-fits_store : (limit : ℕ) (start now : Moment) (reading : Reading) (accepted : Bool) (request : Request) → SoFar limit start now reading accepted → IsRequest reading.hash request → IsRequest start.store.hash request
+fits_store : (limit : ℕ) (start now : Moment) (reading : Reading) (accepted : Bool) (request : Request) → SoFar limit start now reading accepted → IsRequest reading.hash request → IsRequest start.held.store.hash request
 fits_store limit start now reading accepted request s fits = subst (λ (h : HashKind). IsRequest h request) s.kind fits
 
 pub spellings_more : (requests : List Request) (request : Request) → flat_map spelling (requests ++ request ∷ []) ≡ flat_map spelling requests ++ spelling request
@@ -83,11 +83,10 @@ split_more done held taken text held' e = append_assoc done held taken ∙ ap (�
 
 pub so_far_more : (limit : ℕ) (start now next : Moment) (old new : Reading) (accepted : Bool) (block : Request) (reply : Reply)
     → SoFar limit start now old accepted → IsRequest old.hash block → Moves old new now.left next.left (spelling block)
-    → IsReply now.settings now.store block reply next.store → Writes now.written next.written (reply_text reply)
-    → next.settings ≡ now.settings → now.source_faults ≤ next.source_faults → now.sink_faults ≤ next.sink_faults
+    → IsReply now.held block reply next.held → Writes now.written next.written (reply_text reply)
+    → now.source_faults ≤ next.source_faults → now.sink_faults ≤ next.sink_faults
     → SoFar limit start next new (accepted && is_accepted reply)
-so_far_more limit start now next old new accepted block reply s fits m step w settings source sink =
-    let h : IsReply start.settings now.store block reply next.store = subst (λ x. IsReply x now.store block reply next.store) s.settings step in
+so_far_more limit start now next old new accepted block reply s fits m step w source sink =
     let whole : flat_map spelling (s.requests ++ block ∷ []) ++ new.held ≡ (flat_map spelling s.requests ++ old.held) ++ m.taken =
     ap (λ l. l ++ new.held) (spellings_more s.requests block) ∙ sym (split_more (flat_map spelling s.requests) old.held m.taken (spelling block) new.held m.split) in
     record {
@@ -95,13 +94,12 @@ so_far_more limit start now next old new accepted block reply s fits m step w se
       replies = s.replies ++ reply ∷ [];
       course = record {
         takes = subst (Takes start.left next.left) (sym whole) (takes_then start.left now.left next.left (flat_map spelling s.requests ++ old.held) m.taken s.course.takes m.takes);
-        each = each_more start.store.hash s.requests block s.course.each (fits_store limit start now old accepted block s fits);
-        run = run_more start.settings start.store now.store next.store s.requests s.replies block reply s.course.run h.served;
+        each = each_more start.held.store.hash s.requests block s.course.each (fits_store limit start now old accepted block s fits);
+        run = run_more start.held now.held next.held s.requests s.replies block reply s.course.run step.served;
         writes = subst (Writes start.written next.written) (sym (texts_more s.replies reply)) (writes_then start.written now.written next.written (texts s.replies) (reply_text reply) s.course.writes w);
       };
       room = omega (arith, ap length whole ∙ length-append (flat_map spelling s.requests ++ old.held) m.taken, m.room, s.room);
-      machine = runs_on start.settings s.requests s.replies block reply start.store now.store next.store s.machine h.step;
-      settings = settings ∙ s.settings;
+      machine = runs_on s.requests s.replies block reply start.held now.held next.held s.machine step.step;
       all = accepted_more s.replies reply ∙ ap (λ b. b && is_accepted reply) s.all;
       fine = m.failed ∙ s.fine;
       kind = m.hash ∙ s.kind;
@@ -109,15 +107,14 @@ so_far_more limit start now next old new accepted block reply s fits m step w se
       sink_later = omega (arith, s.sink_later);
     }
 
-pub so_far_first : (limit : ℕ) (m : Moment) → SoFar limit m m (record { hash = m.store.hash; held = []; room = limit; newlines = 0; failed = None }) true
+pub so_far_first : (limit : ℕ) (m : Moment) → SoFar limit m m (record { hash = m.held.store.hash; held = []; room = limit; newlines = 0; failed = None }) true
 so_far_first limit m = record {
   requests = [];
   replies = [];
-  course = record { takes = takes_none m.left; each = tt; run = run_none m.settings m.store; writes = writes_none m.written };
+  course = record { takes = takes_none m.left; each = tt; run = run_none m.held; writes = writes_none m.written };
   room = omega arith;
-  machine = runs_none m.settings m.store;
+  machine = runs_none m.held;
   all = refl;
-  settings = refl;
   fine = refl;
   kind = refl;
   source_later = omega arith;
@@ -125,8 +122,8 @@ so_far_first limit m = record {
 }
 
 -- more bytes were taken, and nothing was written
-course_taken : (start now next : Moment) (requests : List Request) (replies : List Reply) (held taken out : List ℕ) (store : StoreState) → Course start now requests replies held out store → Takes now.left next.left taken → next.written ≡ now.written → Course start next requests replies (held ++ taken) out store
-course_taken start now next requests replies held taken out store c t same = record {
+course_taken : (start now next : Moment) (requests : List Request) (replies : List Reply) (held taken out : List ℕ) (after : Held) → Course start now requests replies held out after → Takes now.left next.left taken → next.written ≡ now.written → Course start next requests replies (held ++ taken) out after
+course_taken start now next requests replies held taken out after c t same = record {
   takes = subst (Takes start.left next.left) (append_assoc (flat_map spelling requests) held taken) (takes_then start.left now.left next.left (flat_map spelling requests ++ held) taken c.takes t);
   each = c.each;
   run = c.run;
@@ -139,8 +136,8 @@ count_taken requests held taken = ap length (sym (append_assoc (flat_map spellin
 -- the reader's end: the script was read to its end
 at_end : (limit : ℕ) (start now next : Moment) (old new : Reading) (accepted : Bool) (status : Status)
     → SoFar limit start now old accepted → Moves old new now.left next.left [] → new.held ≡ [] → IsEnd next.left
-    → next.written ≡ now.written → next.store ≡ now.store
-    → ((replies : List Reply) (rest out : List ℕ) (requests : List Request) → taken_count requests rest ≤ limit → rest ≡ [] → out ≡ texts replies → all_accepted replies ≡ accepted → Ends limit start next requests replies rest out now.store status)
+    → next.written ≡ now.written → next.held ≡ now.held
+    → ((replies : List Reply) (rest out : List ℕ) (requests : List Request) → taken_count requests rest ≤ limit → rest ≡ [] → out ≡ texts replies → all_accepted replies ≡ accepted → Ends limit start next requests replies rest out now.held status)
     → Served limit start next status
 at_end limit start now next old new accepted status s m none end written store ends =
     let rest : List ℕ = old.held ++ m.taken in
@@ -149,21 +146,21 @@ at_end limit start now next old new accepted status s m none end written store e
       replies = s.replies;
       rest = rest;
       out = texts s.replies;
-      store = now.store;
+      held = now.held;
       machine = s.machine;
-      course = course_taken start now next s.requests s.replies old.held m.taken (texts s.replies) now.store s.course m.takes written;
+      course = course_taken start now next s.requests s.replies old.held m.taken (texts s.replies) now.held s.course m.takes written;
       ends = ends s.replies rest (texts s.replies) s.requests (omega (arith, count_taken s.requests old.held m.taken, s.room, m.room)) (m.split ∙ none) refl s.all;
     }
 
 pub ends_done : (limit : ℕ) (start now next : Moment) (old new : Reading)
     → SoFar limit start now old true → Moves old new now.left next.left [] → new.held ≡ [] → IsEnd next.left
-    → next.written ≡ now.written → next.store ≡ now.store → Served limit start next Done
+    → next.written ≡ now.written → next.held ≡ now.held → Served limit start next Done
 ends_done limit start now next old new s m none end written store =
     at_end limit start now next old new true Done s m none end written store (λ replies rest out requests few empty all accepted. (few, empty, end, all, store, accepted))
 
 pub ends_refusals : (limit : ℕ) (start now next : Moment) (old new : Reading)
     → SoFar limit start now old false → Moves old new now.left next.left [] → new.held ≡ [] → IsEnd next.left
-    → next.written ≡ now.written → next.store ≡ now.store → Served limit start next Refusals
+    → next.written ≡ now.written → next.held ≡ now.held → Served limit start next Refusals
 ends_refusals limit start now next old new s m none end written store =
     at_end limit start now next old new false Refusals s m none end written store (λ replies rest out requests few empty all accepted. (few, empty, end, all, store, accepted))
 
@@ -171,7 +168,7 @@ ends_refusals limit start now next old new s m none end written store =
 stays_within : (limit : ℕ) (start now next : Moment) (old : Reading) (accepted : Bool) (status : Status) (P : List ℕ → Type 0)
     → SoFar limit start now old accepted → Stays P old now.left next.left
     → next.written ≡ now.written
-    → ((replies : List Reply) (rest out : List ℕ) (requests : List Request) → taken_count requests rest ≤ limit → P rest → out ≡ texts replies → Ends limit start next requests replies rest out now.store status)
+    → ((replies : List Reply) (rest out : List ℕ) (requests : List Request) → taken_count requests rest ≤ limit → P rest → out ≡ texts replies → Ends limit start next requests replies rest out now.held status)
     → Served limit start next status
 stays_within limit start now next old accepted status P s m written ends =
     record {
@@ -179,50 +176,50 @@ stays_within limit start now next old accepted status P s m written ends =
       replies = s.replies;
       rest = old.held ++ m.taken;
       out = texts s.replies;
-      store = now.store;
+      held = now.held;
       machine = s.machine;
-      course = course_taken start now next s.requests s.replies old.held m.taken (texts s.replies) now.store s.course m.takes written;
+      course = course_taken start now next s.requests s.replies old.held m.taken (texts s.replies) now.held s.course m.takes written;
       ends = ends s.replies (old.held ++ m.taken) (texts s.replies) s.requests (omega (arith, count_taken s.requests old.held m.taken, s.room, m.room)) m.part refl;
     }
 
 pub ends_malformed : (limit line : ℕ) (start now next : Moment) (old : Reading) (accepted : Bool)
     → SoFar limit start now old accepted → Stays (BadAt old next.left line) old now.left next.left
-    → next.written ≡ now.written → next.store ≡ now.store → Served limit start next Malformed
+    → next.written ≡ now.written → next.held ≡ now.held → Served limit start next Malformed
 ends_malformed limit line start now next old accepted s m written store =
     stays_within limit start now next old accepted Malformed (BadAt old next.left line) s m written (λ replies rest out requests few bad all. (few, (bad.0, subst (λ (h : HashKind). IsBad h rest (IsEnd next.left) bad.0) s.kind bad.1), all, store))
 
 pub ends_read_fault : (limit : ℕ) (start now next : Moment) (old : Reading) (accepted : Bool)
     → SoFar limit start now old accepted → Stays (Begins old.hash) old now.left next.left → Rose now.source_faults next.source_faults
-    → next.written ≡ now.written → next.store ≡ now.store → Served limit start next ReadFault
+    → next.written ≡ now.written → next.held ≡ now.held → Served limit start next ReadFault
 ends_read_fault limit start now next old accepted s m rose written store =
     stays_within limit start now next old accepted ReadFault (Begins old.hash) s m written (λ replies rest out requests few begins all. (few, subst (λ (h : HashKind). Begins h rest) s.kind begins, rose_before start.source_faults now.source_faults next.source_faults s.source_later rose, all, store))
 
 pub ends_no_memory : (limit : ℕ) (start now next : Moment) (old : Reading) (accepted : Bool)
     → SoFar limit start now old accepted → Stays Anything old now.left next.left
-    → next.written ≡ now.written → next.store ≡ now.store → Served limit start next NoMemory
+    → next.written ≡ now.written → next.held ≡ now.held → Served limit start next NoMemory
 ends_no_memory limit start now next old accepted s m written store =
     stays_within limit start now next old accepted NoMemory Anything s m written (λ replies rest out requests few any all. (few, inl (all, inl store)))
 
 pub ends_too_long : (limit : ℕ) (start now next : Moment) (old : Reading) (accepted : Bool)
     → SoFar limit start now old accepted → Overruns (Begins old.hash) old now.left next.left
-    → next.written ≡ now.written → next.store ≡ now.store → Served limit start next TooLong
+    → next.written ≡ now.written → next.held ≡ now.held → Served limit start next TooLong
 ends_too_long limit start now next old accepted s m written store =
     record {
       requests = s.requests;
       replies = s.replies;
       rest = old.held ++ (m.taken ++ m.last ∷ []);
       out = texts s.replies;
-      store = now.store;
+      held = now.held;
       machine = s.machine;
-      course = course_taken start now next s.requests s.replies old.held (m.taken ++ m.last ∷ []) (texts s.replies) now.store s.course m.takes written;
+      course = course_taken start now next s.requests s.replies old.held (m.taken ++ m.last ∷ []) (texts s.replies) now.held s.course m.takes written;
       ends = (omega (arith, count_taken s.requests old.held (m.taken ++ m.last ∷ []), length-append m.taken (m.last ∷ []), s.room, m.room), record { within = old.held ++ m.taken; last = m.last; is = sym (append_assoc old.held m.taken (m.last ∷ [])); begins = subst (λ (h : HashKind). Begins h (old.held ++ m.taken)) s.kind m.part }, refl, store);
     }
 
 -- a whole request was read, and got no reply
 read_one : (limit : ℕ) (start now next : Moment) (old new : Reading) (accepted : Bool) (block : Request) (error : ExecuteError) (status : Status)
-    → SoFar limit start now old accepted → IsRequest old.hash block → Moves old new now.left next.left (spelling block) → Stops now.settings now.store block next.store error
+    → SoFar limit start now old accepted → IsRequest old.hash block → Moves old new now.left next.left (spelling block) → Stops now.held block next.held error
     → next.written ≡ now.written
-    → ((replies : List Reply) (rest out : List ℕ) (requests : List Request) → taken_count requests rest ≤ limit → GotNoReply start.settings start.store.hash now.store rest error next.store → out ≡ texts replies → Ends limit start next requests replies rest out now.store status)
+    → ((replies : List Reply) (rest out : List ℕ) (requests : List Request) → taken_count requests rest ≤ limit → GotNoReply start.held.store.hash now.held rest error next.held → out ≡ texts replies → Ends limit start next requests replies rest out now.held status)
     → Served limit start next status
 read_one limit start now next old new accepted block error status s fits m fails written ends =
     record {
@@ -230,22 +227,22 @@ read_one limit start now next old new accepted block error status s fits m fails
       replies = s.replies;
       rest = old.held ++ m.taken;
       out = texts s.replies;
-      store = now.store;
+      held = now.held;
       machine = s.machine;
-      course = course_taken start now next s.requests s.replies old.held m.taken (texts s.replies) now.store s.course m.takes written;
-      ends = ends s.replies (old.held ++ m.taken) (texts s.replies) s.requests (omega (arith, count_taken s.requests old.held m.taken, s.room, m.room)) (record { request = block; more = new.held; fits = fits_store limit start now old accepted block s fits; is = m.split; fails = subst (λ x. Stops x now.store block next.store error) s.settings fails }) refl;
+      course = course_taken start now next s.requests s.replies old.held m.taken (texts s.replies) now.held s.course m.takes written;
+      ends = ends s.replies (old.held ++ m.taken) (texts s.replies) s.requests (omega (arith, count_taken s.requests old.held m.taken, s.room, m.room)) (record { request = block; more = new.held; fits = fits_store limit start now old accepted block s fits; is = m.split; fails = fails }) refl;
     }
 
 pub ends_store : (limit : ℕ) (start now next : Moment) (old new : Reading) (accepted : Bool) (block : Request) (fault : What)
     → SoFar limit start now old accepted → IsRequest old.hash block → Moves old new now.left next.left (spelling block)
-    → Stops now.settings now.store block next.store (no_reply.Store fault)
+    → Stops now.held block next.held (no_reply.Store fault)
     → next.written ≡ now.written → Served limit start next StoreFault
 ends_store limit start now next old new accepted block fault s fits m fails written =
     read_one limit start now next old new accepted block (no_reply.Store fault) StoreFault s fits m fails written (λ replies rest out requests few none all. (few, all, (fault, none)))
 
 pub ends_store_memory : (limit : ℕ) (start now next : Moment) (old new : Reading) (accepted : Bool) (block : Request)
     → SoFar limit start now old accepted → IsRequest old.hash block → Moves old new now.left next.left (spelling block)
-    → Stops now.settings now.store block next.store no_reply.NoMemory
+    → Stops now.held block next.held no_reply.NoMemory
     → next.written ≡ now.written → Served limit start next NoMemory
 ends_store_memory limit start now next old new accepted block s fits m fails written =
     read_one limit start now next old new accepted block no_reply.NoMemory NoMemory s fits m fails written (λ replies rest out requests few none all. (few, inl (all, inr none)))
@@ -253,11 +250,10 @@ ends_store_memory limit start now next old new accepted block s fits m fails wri
 -- the request was run, and a front of its reply was written
 wrote_front : (limit : ℕ) (start now next : Moment) (old new : Reading) (accepted : Bool) (block : Request) (reply : Reply) (status : Status)
     → SoFar limit start now old accepted → IsRequest old.hash block → Moves old new now.left next.left (spelling block)
-    → IsReply now.settings now.store block reply next.store → (w : WritesFront now.written next.written (reply_text reply))
-    → ((requests : List Request) (before : List Reply) → taken_count requests new.held ≤ limit → Ends limit start next requests (before ++ reply ∷ []) new.held (texts before ++ w.part) next.store status)
+    → IsReply now.held block reply next.held → (w : WritesFront now.written next.written (reply_text reply))
+    → ((requests : List Request) (before : List Reply) → taken_count requests new.held ≤ limit → Ends limit start next requests (before ++ reply ∷ []) new.held (texts before ++ w.part) next.held status)
     → Served limit start next status
 wrote_front limit start now next old new accepted block reply status s fits m step w ends =
-    let h : IsReply start.settings now.store block reply next.store = subst (λ x. IsReply x now.store block reply next.store) s.settings step in
     let whole : flat_map spelling (s.requests ++ block ∷ []) ++ new.held ≡ (flat_map spelling s.requests ++ old.held) ++ m.taken =
     ap (λ l. l ++ new.held) (spellings_more s.requests block) ∙ sym (split_more (flat_map spelling s.requests) old.held m.taken (spelling block) new.held m.split) in
     record {
@@ -265,12 +261,12 @@ wrote_front limit start now next old new accepted block reply status s fits m st
       replies = s.replies ++ reply ∷ [];
       rest = new.held;
       out = texts s.replies ++ w.part;
-      store = next.store;
-      machine = runs_on start.settings s.requests s.replies block reply start.store now.store next.store s.machine h.step;
+      held = next.held;
+      machine = runs_on s.requests s.replies block reply start.held now.held next.held s.machine step.step;
       course = record {
         takes = subst (Takes start.left next.left) (sym whole) (takes_then start.left now.left next.left (flat_map spelling s.requests ++ old.held) m.taken s.course.takes m.takes);
-        each = each_more start.store.hash s.requests block s.course.each (fits_store limit start now old accepted block s fits);
-        run = run_more start.settings start.store now.store next.store s.requests s.replies block reply s.course.run h.served;
+        each = each_more start.held.store.hash s.requests block s.course.each (fits_store limit start now old accepted block s fits);
+        run = run_more start.held now.held next.held s.requests s.replies block reply s.course.run step.served;
         writes = writes_then start.written now.written next.written (texts s.replies) w.part s.course.writes w.writes;
       };
       ends = ends (s.requests ++ block ∷ []) s.replies (omega (arith, ap length whole ∙ length-append (flat_map spelling s.requests ++ old.held) m.taken, m.room, s.room));
@@ -278,14 +274,14 @@ wrote_front limit start now next old new accepted block reply status s fits m st
 
 pub ends_write_fault : (limit : ℕ) (start now next : Moment) (old new : Reading) (accepted : Bool) (block : Request) (reply : Reply)
     → SoFar limit start now old accepted → IsRequest old.hash block → Moves old new now.left next.left (spelling block)
-    → IsReply now.settings now.store block reply next.store → WritesFront now.written next.written (reply_text reply)
+    → IsReply now.held block reply next.held → WritesFront now.written next.written (reply_text reply)
     → Rose now.sink_faults next.sink_faults → Served limit start next WriteFault
 ends_write_fault limit start now next old new accepted block reply s fits m step w rose =
     wrote_front limit start now next old new accepted block reply WriteFault s fits m step w (λ requests before few. (few, rose_before start.sink_faults now.sink_faults next.sink_faults s.sink_later rose, record { before = before; last = reply; part = w.part; more = w.more; all = refl; written = refl; text = w.is; short = w.short }, refl))
 
 pub ends_sink_memory : (limit : ℕ) (start now next : Moment) (old new : Reading) (accepted : Bool) (block : Request) (reply : Reply)
     → SoFar limit start now old accepted → IsRequest old.hash block → Moves old new now.left next.left (spelling block)
-    → IsReply now.settings now.store block reply next.store → WritesFront now.written next.written (reply_text reply)
+    → IsReply now.held block reply next.held → WritesFront now.written next.written (reply_text reply)
     → Served limit start next NoMemory
 ends_sink_memory limit start now next old new accepted block reply s fits m step w =
     wrote_front limit start now next old new accepted block reply NoMemory s fits m step w (λ requests before few. (few, inr (record { before = before; last = reply; part = w.part; more = w.more; all = refl; written = refl; text = w.is; short = w.short }, refl)))
@@ -297,21 +293,33 @@ ends_at_once limit m = record {
   replies = [];
   rest = [];
   out = [];
-  store = m.store;
-  machine = runs_none m.settings m.store;
-  course = record { takes = takes_none m.left; each = tt; run = run_none m.settings m.store; writes = writes_none m.written };
+  held = m.held;
+  machine = runs_none m.held;
+  course = record { takes = takes_none m.left; each = tt; run = run_none m.held; writes = writes_none m.written };
   ends = (omega arith, inl (refl, inl refl));
 }
 
+after_some : (xs ys : List ℕ) → ys ≢ [] → xs ++ ys ≢ []
+after_some [] ys some none = some none
+after_some (x ∷ xs) ys some none = cc
+
+log_some : (lines : Option (List LogLine)) → log_text lines ≢ []
+log_some None none = cc
+log_some (Some lines) none = after_some (flat_map log_line_text lines) (count_text (length lines)) (λ empty. cc) none
+
+answer_some : (answer : Answer) → answer_text answer ≢ []
+answer_some (Id id) none = cc
+answer_some (Log lines) none = log_some lines none
+
 reply_some : (reply : Reply) → reply_text reply ≢ []
 unfolding reply_text
-reply_some (Committed id) none = cc
+reply_some (Accepted answer) none = answer_some answer none
 reply_some (Refused refusal) none = cc
 
 -- the request was run, and no memory was left for its reply
 pub ends_print_memory : (limit : ℕ) (start now next : Moment) (old new : Reading) (accepted : Bool) (block : Request) (reply : Reply)
     → SoFar limit start now old accepted → IsRequest old.hash block → Moves old new now.left next.left (spelling block)
-    → IsReply now.settings now.store block reply next.store → next.written ≡ now.written → Served limit start next NoMemory
+    → IsReply now.held block reply next.held → next.written ≡ now.written → Served limit start next NoMemory
 ends_print_memory limit start now next old new accepted block reply s fits m step written =
     ends_sink_memory limit start now next old new accepted block reply s fits m step (record { part = []; more = reply_text reply; is = refl; short = reply_some reply; writes = subst (λ w. Writes now.written w []) (sym written) (writes_none now.written) })
 
@@ -326,23 +334,23 @@ some_items ((Line line) ∷ items) h = omega (arith, length-append (line ++ 10 �
 some_items ((Block bytes) ∷ items) h = absurd h
 
 begins_with_line : (request : Request) → BeginsWithLine (items_of request)
-begins_with_line (Commit asked) = tt
-begins_with_line (Identity who) = tt
-begins_with_line (Tag asked) = tt
-begins_with_line (Ref asked) = tt
-begins_with_line (Delete name expect) = tt
-begins_with_line (Refs prefix) = tt
-begins_with_line (Log name) = tt
-begins_with_line (Paths id) = tt
-begins_with_line (Walk order ids) = tt
-begins_with_line (Bases first others) = tt
-begins_with_line (Octopus ids) = tt
-begins_with_line (Describe names max id) = tt
-begins_with_line (NoteSet asked) = tt
-begins_with_line (NoteDrop reference object) = tt
-begins_with_line (NoteGet object patterns) = tt
-begins_with_line Head = tt
-begins_with_line (Namespace name) = tt
+begins_with_line (form.Commit asked) = tt
+begins_with_line (form.Identity who) = tt
+begins_with_line (form.Tag asked) = tt
+begins_with_line (form.Ref asked) = tt
+begins_with_line (form.Delete name expect) = tt
+begins_with_line (form.Refs prefix) = tt
+begins_with_line (form.Log name) = tt
+begins_with_line (form.Paths id) = tt
+begins_with_line (form.Walk order ids) = tt
+begins_with_line (form.Bases first others) = tt
+begins_with_line (form.Octopus ids) = tt
+begins_with_line (form.Describe names max id) = tt
+begins_with_line (form.NoteSet asked) = tt
+begins_with_line (form.NoteDrop reference object) = tt
+begins_with_line (form.NoteGet object patterns) = tt
+begins_with_line form.Head = tt
+begins_with_line (form.Namespace name) = tt
 
 spelling_some : (request : Request) → 0 < length (spelling request)
 unfolding spelling

@@ -1,9 +1,12 @@
-pub mod OutsideLemmas
-pub mod ServingLemmas
-pub mod MachineLemmas
+pub mod CallLemmas
+pub mod CommitForm
 pub mod CourseLemmas
-pub mod RequestLemmas
 pub mod EndLemmas
 pub mod FaultlessLemmas
-pub mod ValidLemmas
+pub mod FormLemmas
 pub mod LawLemmas
+pub mod LogForm
+pub mod MachineLemmas
+pub mod OutsideLemmas
+pub mod UnservedForm
+pub mod ValidLemmas

@@ -15,8 +15,9 @@ use Rattle.gx_tool.specs.declared.executing.ExecuteError.{ExecuteError}
 use Rattle.gx_tool.specs.declared.executing.ExecuteError.TheVariants as no_reply
 use Rattle.gx_tool.specs.declared.status.Status.{Status}
 use Rattle.gx_tool.specs.declared.status.Status.TheVariants.{Done, Refusals, Malformed, ReadFault, WriteFault, NoMemory, BadWords, StoreFault, TooLong}
-use Rattle.gix.specs.Machine.{WhereTold}
-use Rattle.gix.specs.declared.settings.Settings.{Settings}
+use Rattle.gix.specs.Held.{Held, HeldTold}
+use Rattle.gix.specs.Repository.{held_by}
+use Rattle.gix.specs.declared.repository.Repository.{Repository}
 use Rattle.gx_tool.specs.Serving.{ServesAll, Stops}
 use Rattle.gx_tool.specs.Machine.{Run}
 use Rattle.gx_tool.specs.Reply.{reply_text, texts, all_accepted}
@@ -36,20 +37,30 @@ code TooLong = 8
 -- What is there at a moment: the repository's settings and its store, what is left of the script and what was written,
 -- where told, and the counts of faults of source and sink.
 pub record Moment : Type 0 where
-  pub settings : Settings
-  pub store : StoreState
+  pub held : Held
   pub left : Option (List ℕ)
   pub written : Option (List ℕ)
   pub source_faults : ℕ
   pub sink_faults : ℕ
 
+-- the moment of a repository, a source and a sink, by what their store, source and sink tell and count
+abbrev pub moment_of : {S I O : Type 0} → (S → StoreState) → (I → Option (List ℕ)) → (I → ℕ) → (O → Option (List ℕ))
+    → (O → ℕ) → Repository S → I → O → Moment
+moment_of state left source_faults written sink_faults repository source sink = record {
+  held = held_by state repository;
+  left = left source;
+  written = written sink;
+  source_faults = source_faults source;
+  sink_faults = sink_faults sink;
+}
+
 -- These requests were read whole and run, with these replies; after them these bytes were taken; these bytes were
--- written; and this was the store after the last reply.
+-- written; and this is what the repository held after the last reply.
 pub record Course (start now : Moment) (requests : List Request) (replies : List Reply) (rest : List ℕ)
-    (out : List ℕ) (store : StoreState) : Type 0 where
+    (out : List ℕ) (held : Held) : Type 0 where
   pub takes : Takes start.left now.left (flat_map spelling requests ++ rest)
-  pub each : AllByRecursion (IsRequest start.store.hash) requests
-  pub run : ServesAll start.settings start.store requests replies store
+  pub each : AllByRecursion (IsRequest start.held.store.hash) requests
+  pub run : ServesAll start.held requests replies held
   pub writes : Writes start.written now.written out
 
 -- all replies but the last were written, and of that a front, but not all
@@ -64,13 +75,13 @@ pub record IsCut (replies : List Reply) (out : List ℕ) : Type 0 where
   pub short : more ≢ []
 
 -- a whole request of the store's kind stands at the front of the rest, and got no reply
-pub record GotNoReply (settings : Settings) (hash : HashKind) (old : StoreState) (rest : List ℕ)
-    (error : ExecuteError) (new : StoreState) : Type 0 where
+pub record GotNoReply (hash : HashKind) (old : Held) (rest : List ℕ) (error : ExecuteError)
+    (new : Held) : Type 0 where
   pub request : Request
   pub more : List ℕ
   pub fits : IsRequest hash request
   pub is : rest ≡ spelling request ++ more
-  pub fails : Stops settings old request new error
+  pub fails : Stops old request new error
 
 -- all but the last byte begin a request, or are none
 pub record IsOneTooMany (hash : HashKind) (rest : List ℕ) : Type 0 where
@@ -84,45 +95,46 @@ abbrev pub taken_count : List Request → List ℕ → ℕ
 taken_count requests rest = length (flat_map spelling requests ++ rest)
 
 -- How a run ends, by its status: after these requests and replies, with this rest of the bytes taken, these bytes
--- written, and the store as it was after the last reply. 0 and 1: the script was read to its end, and all of its
+-- written, and what the repository held after the last reply. 0 and 1: the script was read to its end, and all of its
 -- replies were written. 2: the bytes after the requests are malformed. 3: a read failed; the bytes after the requests
 -- begin one, or are none. 4: a write failed within a reply. 5: memory ran out. 6: never, since nothing is run. 7: the
 -- store failed at a request. 8: a byte past the limit was taken; those before it, after the requests, begin one, or are
 -- none. (Ours; docs/SCRIPT.md.)
-abbrev pub Ends : ℕ → Moment → Moment → List Request → List Reply → List ℕ → List ℕ → StoreState → Status → Type 0
-Ends limit start now requests replies rest out store Done = (taken_count requests rest ≤ limit) × (rest ≡ [])
-    × IsEnd now.left × (out ≡ texts replies) × (now.store ≡ store) × (all_accepted replies ≡ true)
-Ends limit start now requests replies rest out store Refusals = (taken_count requests rest ≤ limit) × (rest ≡ [])
-    × IsEnd now.left × (out ≡ texts replies) × (now.store ≡ store) × (all_accepted replies ≡ false)
-Ends limit start now requests replies rest out store Malformed = (taken_count requests rest ≤ limit)
-    × ((newlines : ℕ) × IsBad start.store.hash rest (IsEnd now.left) newlines) × (out ≡ texts replies)
-    × (now.store ≡ store)
-Ends limit start now requests replies rest out store ReadFault = (taken_count requests rest ≤ limit)
-    × Begins start.store.hash rest × Rose start.source_faults now.source_faults × (out ≡ texts replies)
-    × (now.store ≡ store)
-Ends limit start now requests replies rest out store WriteFault = (taken_count requests rest ≤ limit)
-    × Rose start.sink_faults now.sink_faults × IsCut replies out × (now.store ≡ store)
-Ends limit start now requests replies rest out store NoMemory = (taken_count requests rest ≤ limit)
-    × (((out ≡ texts replies) × ((now.store ≡ store)
-    ⊎ GotNoReply start.settings start.store.hash store rest no_reply.NoMemory now.store))
-    ⊎ (IsCut replies out × (now.store ≡ store)))
-Ends limit start now requests replies rest out store BadWords = ⊥
-Ends limit start now requests replies rest out store StoreFault = (taken_count requests rest ≤ limit)
+abbrev pub Ends : ℕ → Moment → Moment → List Request → List Reply → List ℕ → List ℕ → Held → Status → Type 0
+Ends limit start now requests replies rest out held Done = (taken_count requests rest ≤ limit) × (rest ≡ [])
+    × IsEnd now.left × (out ≡ texts replies) × (now.held ≡ held) × (all_accepted replies ≡ true)
+Ends limit start now requests replies rest out held Refusals = (taken_count requests rest ≤ limit) × (rest ≡ [])
+    × IsEnd now.left × (out ≡ texts replies) × (now.held ≡ held) × (all_accepted replies ≡ false)
+Ends limit start now requests replies rest out held Malformed = (taken_count requests rest ≤ limit)
+    × ((newlines : ℕ) × IsBad start.held.store.hash rest (IsEnd now.left) newlines) × (out ≡ texts replies)
+    × (now.held ≡ held)
+Ends limit start now requests replies rest out held ReadFault = (taken_count requests rest ≤ limit)
+    × Begins start.held.store.hash rest × Rose start.source_faults now.source_faults × (out ≡ texts replies)
+    × (now.held ≡ held)
+Ends limit start now requests replies rest out held WriteFault = (taken_count requests rest ≤ limit)
+    × Rose start.sink_faults now.sink_faults × IsCut replies out × (now.held ≡ held)
+Ends limit start now requests replies rest out held NoMemory = (taken_count requests rest ≤ limit)
+    × (((out ≡ texts replies) × ((now.held ≡ held)
+    ⊎ GotNoReply start.held.store.hash held rest no_reply.NoMemory now.held))
+    ⊎ (IsCut replies out × (now.held ≡ held)))
+Ends limit start now requests replies rest out held BadWords = ⊥
+Ends limit start now requests replies rest out held StoreFault = (taken_count requests rest ≤ limit)
     × (out ≡ texts replies) × ((fault : What)
-    × GotNoReply start.settings start.store.hash store rest (no_reply.Store fault) now.store)
-Ends limit start now requests replies rest out store TooLong = (taken_count requests rest ≡ limit + 1)
-    × IsOneTooMany start.store.hash rest × (out ≡ texts replies) × (now.store ≡ store)
+    × GotNoReply start.held.store.hash held rest (no_reply.Store fault) now.held)
+Ends limit start now requests replies rest out held TooLong = (taken_count requests rest ≡ limit + 1)
+    × IsOneTooMany start.held.store.hash rest × (out ≡ texts replies) × (now.held ≡ held)
 
--- A whole run: some requests were read and run, and it ended so.
+-- A whole run: these requests were read whole and got these replies, and it ended so. Where the store tells its state,
+-- the replies are those of a run of the repository machine, from the state before to the one after the last reply.
 pub record Served (limit : ℕ) (start now : Moment) (status : Status) : Type 0 where
   pub requests : List Request
   pub replies : List Reply
   pub rest : List ℕ
   pub out : List ℕ
-  pub store : StoreState
-  pub course : Course start now requests replies rest out store
-  pub machine : WhereTold (λ old new. Run start.settings old requests replies new) start.store store
-  pub ends : Ends limit start now requests replies rest out store status
+  pub held : Held
+  pub course : Course start now requests replies rest out held
+  pub machine : HeldTold (λ old new. Run old requests replies new) start.held held
+  pub ends : Ends limit start now requests replies rest out held status
 
 -- the bytes before the rest were written
 pub record WritesUpTo (written written' : Option (List ℕ)) (bytes rest : List ℕ) : Type 0 where
@@ -145,17 +157,8 @@ IsApply (store ∷ []) = ⊥
 IsApply (store ∷ word ∷ []) = string_bytes word ≡ codes "apply"
 IsApply (store ∷ word ∷ more ∷ words) = ⊥
 
--- A run of a script up to the limit, which answers the number of its status: these requests were read whole and got
--- these replies. Where the store tells its state, the replies are those of a run of the repository machine, from the
--- state before to the one after the last reply; and the run ended by its status.
+-- A run of a script up to the limit, which answers the number of its status.
 pub record Answers (limit : ℕ) (start now : Moment) (number : ℕ) : Type 0 where
   pub status : Status
   pub is : number ≡ code status
-  pub requests : List Request
-  pub replies : List Reply
-  pub rest : List ℕ
-  pub out : List ℕ
-  pub store : StoreState
-  pub course : Course start now requests replies rest out store
-  pub machine : WhereTold (λ old new. Run start.settings old requests replies new) start.store store
-  pub ends : Ends limit start now requests replies rest out store status
+  pub served : Served limit start now status

@@ -1,6 +1,11 @@
+pub mod Call
+pub mod CallLaws
+pub mod CommitForm
 pub mod Completeness
 pub mod Course
+pub mod LogForm
 pub mod Machine
 pub mod ReadsOnce
 pub mod Reply
 pub mod Serving
+pub mod UnservedForm

@@ -1,5 +1,5 @@
 -- What replies look like.
-use Rattle.std.specs.Prelude.{ℕ, Bool, true, false, List, [], ◌∷◌, ◌++◌, codes}
+use Rattle.std.specs.Prelude.{ℕ, Bool, true, false, List, [], ◌∷◌, ◌++◌, length, Option, Some, None, codes, decimal}
 use Rattle.std.specs.List.{flat_map, list_all}
 use Rattle.gx_hash.specs.ObjectId.{hex_of}
 use Rattle.gx_object.specs.Kind.{kind_name}
@@ -7,12 +7,16 @@ use Rattle.gx_object.specs.Mode.{mode_of}
 use Rattle.gx_object.specs.Tree.{octal_of}
 use Rattle.gx_object.specs.declared.encode.Field.{Field}
 use Rattle.gx_object.specs.declared.encode.Field.TheVariants.{FileName, AuthorName, AuthorEmail, AuthorOffset, CommitterName, CommitterEmail, CommitterOffset, TaggerName, TaggerEmail, TaggerOffset, TagName, Encoding, HeaderName}
+use Rattle.gx_store.specs.LogText.{line_bytes}
+use Rattle.gx_store.specs.declared.log_line.LogLine.{LogLine}
 use Rattle.gx_store.specs.declared.target.Target.{Target}
 use Rattle.gx_store.specs.declared.target.Target.TheVariants.{Object, Symbolic}
 use Rattle.gx_tool.specs.declared.refusal.Refusal.{Refusal}
 use Rattle.gx_tool.specs.declared.refusal.Refusal.TheVariants.{Unsupported, Find, Kind, Decode, EmptyComponent, Filename, Missing, Unwritable, Cycle, Depth, MustExist, MustNotExist, OutOfDate, Conflict}
 use Rattle.gx_tool.specs.declared.reply.Reply.{Reply}
-use Rattle.gx_tool.specs.declared.reply.Reply.TheVariants.{Committed, Refused}
+use Rattle.gx_tool.specs.declared.answer.Answer.{Answer}
+use Rattle.gx_tool.specs.declared.answer.Answer.TheVariants.{Id, Log}
+use Rattle.gx_tool.specs.declared.reply.Reply.TheVariants.{Accepted, Refused}
 
 -- an id in hex digits, or a name after an @
 abbrev pub target_text : Target → List ℕ
@@ -54,9 +58,27 @@ refusal_text (OutOfDate name expected actual) =
     codes "out-of-date" ++ (32 ∷ name) ++ (32 ∷ target_text expected) ++ 32 ∷ target_text actual
 refusal_text (Conflict name other) = codes "conflict" ++ (32 ∷ name) ++ 32 ∷ other
 
--- A reply is a line: `ok` and what was made, or `no` and why not. (Ours; docs/SCRIPT.md.)
+-- the line of a reply that shows a line of a log
+abbrev pub log_line_text : LogLine → List ℕ
+log_line_text line = codes "log " ++ line_bytes line ++ 10 ∷ []
+
+-- The last line of an answer of many lines is `ok` and their count.
+abbrev pub count_text : ℕ → List ℕ
+count_text count = codes "ok " ++ decimal count ++ 10 ∷ []
+
+-- A log is told by its lines, the oldest first, and their count; that there is none by `none`.
+abbrev pub log_text : Option (List LogLine) → List ℕ
+log_text None = codes "ok none" ++ 10 ∷ []
+log_text (Some lines) = flat_map log_line_text lines ++ count_text (length lines)
+
+-- An answer ends with a line that begins with `ok`. (Ours; docs/SCRIPT.md.)
+abbrev pub answer_text : Answer → List ℕ
+answer_text (Id id) = codes "ok " ++ hex_of id ++ 10 ∷ []
+answer_text (Log lines) = log_text lines
+
+-- A reply is an answer, or a line with `no` and why not. (Ours; docs/SCRIPT.md.)
 unfoldable pub reply_text : Reply → List ℕ
-reply_text (Committed id) = codes "ok " ++ hex_of id ++ 10 ∷ []
+reply_text (Accepted answer) = answer_text answer
 reply_text (Refused refusal) = codes "no " ++ refusal_text refusal ++ 10 ∷ []
 
 -- replies one after another
@@ -65,7 +87,7 @@ texts replies = flat_map reply_text replies
 
 -- the reply is an `ok`
 abbrev pub is_accepted : Reply → Bool
-is_accepted (Committed id) = true
+is_accepted (Accepted answer) = true
 is_accepted (Refused refusal) = false
 
 -- each reply is an `ok`

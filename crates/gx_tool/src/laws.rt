@@ -2,12 +2,13 @@
 //! of the crates below.
 
 ghost use Rattle.std.specs.Prelude.{◌≡◌, ◌≤◌, ◌⊎◌, ◌↔◌, ℕ, ◌+◌, List, [], ◌++◌, length, Some};
-ghost use Rattle.gix.specs.Machine.{state_of};
+ghost use Rattle.gix.specs.Held.{Whole, state_of};
 ghost use Rattle.gix.specs.View.{State};
 ghost use Rattle.gx_script.specs.declared.request.Request.{Request};
 ghost use Rattle.gx_script.specs.Script.{IsScript};
 ghost use Rattle.gx_tool.specs.Completeness.{IsFaultless, AreValid};
 ghost use Rattle.gx_tool.specs.Course.{Moment, Answers};
+ghost use Rattle.gx_tool.specs.CallLaws.{CallLaws};
 ghost use Rattle.gx_tool.specs.ReadsOnce.{ReadsOnce};
 
 /// The laws of the language that those here rest on.
@@ -17,6 +18,15 @@ fn reads_once()
     gx_script::laws::what_is_bad_has_no_whole_request();
     gx_script::laws::no_bytes_are_no_request();
     gx_script::laws::a_script_is_read_one_way();
+}
+
+/// The laws of the calls that requests ask for.
+pub(crate) fn call_laws()
+    ensures { CallLaws }
+{
+    gix::laws::commit_edits_is_lawful();
+    gix::laws::valid_commit_is_not_refused();
+    gix::laws::log_is_lawful();
 }
 
 /// The number is 8 exactly where a byte past the limit was taken.
@@ -29,13 +39,13 @@ pub fn eight_is_a_byte_past_the_limit()
 pub fn zero_and_one_are_a_whole_script()
     ensures { (limit : ℕ) (start now : Moment) (number : ℕ) (bytes : List ℕ) → Answers limit start now number
         → start.left ≡ Some bytes → (number ≡ 0) ⊎ (number ≡ 1)
-        → (now.left ≡ Some []) × ((requests : List Request) × IsScript start.store.hash bytes requests) }
+        → (now.left ≡ Some []) × ((requests : List Request) × IsScript start.held.store.hash bytes requests) }
 {}
 
 /// The number is not 2 where the source held a script.
 pub fn a_script_is_not_malformed()
     ensures { (limit : ℕ) (start now : Moment) (number : ℕ) (bytes : List ℕ) (requests : List Request)
-        → Answers limit start now number → start.left ≡ Some bytes → IsScript start.store.hash bytes requests
+        → Answers limit start now number → start.left ≡ Some bytes → IsScript start.held.store.hash bytes requests
         → number ≡ 2 → ⊥ }
 {
     reads_once();
@@ -45,28 +55,33 @@ pub fn a_script_is_not_malformed()
 pub fn a_script_is_answered()
     ensures { (limit : ℕ) (start now : Moment) (number : ℕ) (bytes : List ℕ) (requests : List Request)
         → Answers limit start now number → IsFaultless start now
-        → start.left ≡ Some bytes → IsScript start.store.hash bytes requests → length bytes ≤ limit → (number ≡ 0)
+        → start.left ≡ Some bytes → IsScript start.held.store.hash bytes requests → length bytes ≤ limit → (number ≡ 0)
         ⊎ ((number ≡ 1) ⊎ (number ≡ 5)) }
 {
     reads_once();
+    call_laws();
 }
 
 /// Other bytes within the limit are malformed, unless memory runs out, where nothing fails.
 pub fn other_bytes_are_malformed()
     ensures { (limit : ℕ) (start now : Moment) (number : ℕ) (bytes : List ℕ) → Answers limit start now number
         → IsFaultless start now
-        → start.left ≡ Some bytes → ((requests : List Request) → IsScript start.store.hash bytes requests → ⊥)
+        → start.left ≡ Some bytes → ((requests : List Request) → IsScript start.held.store.hash bytes requests → ⊥)
         → length bytes ≤ limit → (number ≡ 2) ⊎ (number ≡ 5) }
-{}
+{
+    call_laws();
+}
 
-/// A script within the limit of commits that are valid, each in its own state of the run, gets an `ok` for each, unless
-/// memory runs out, where nothing fails and the store tells its state.
-pub fn valid_commits_are_accepted()
+/// A script within the limit of requests that are valid, each in its own state of the run, gets an `ok` for each,
+/// unless memory runs out, where nothing fails and the store tells its state.
+pub fn valid_requests_are_accepted()
     ensures { (limit : ℕ) (start now : Moment) (number : ℕ) (bytes : List ℕ) (requests : List Request)
         (state : State) → Answers limit start now number → IsFaultless start now
-        → start.left ≡ Some bytes → IsScript start.store.hash bytes requests → length bytes ≤ limit
-        → state_of start.store ≡ Some state → AreValid start.settings state requests → (number ≡ 0) ⊎ (number ≡ 5) }
+        → start.left ≡ Some bytes → IsScript start.held.store.hash bytes requests → length bytes ≤ limit
+        → state_of start.held.store ≡ Some state
+        → AreValid (record { settings = start.held.settings; state = state }) requests
+        → (number ≡ 0) ⊎ (number ≡ 5) }
 {
     reads_once();
-    gix::laws::valid_is_made();
+    call_laws();
 }

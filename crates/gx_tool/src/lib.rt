@@ -4,14 +4,18 @@
 //! request. It answers the exit status of the program `gx`, which hands it real streams.
 #![tactic(auto)]
 
+mod answer;
+mod commit_form;
 mod executing;
 pub mod laws;
+mod log_form;
 mod refusal;
 mod reply;
 mod running;
 mod status;
 mod words;
 
+pub use answer::Answer;
 pub use executing::{ExecuteError, execute};
 pub use refusal::Refusal;
 pub use reply::{Reply, print_reply};

@@ -3,15 +3,15 @@
 ghost use Rattle.std.specs.Prelude.{◌≡◌, ◌++◌, IfOk, OnOk};
 ghost use Rattle.gx_tool.specs.Reply.{reply_text, is_accepted};
 
+use crate::answer::{Answer, push_answer};
 use crate::refusal::{Refusal, push_refusal};
-use gx_hash::{Bytes, NoMemory, ObjectId};
+use gx_hash::{Bytes, NoMemory};
 use std::alloc::Global;
 
-/// The answer to a request.
+/// The reply to a request.
 #[derive(Debug, Drop)]
 pub enum Reply {
-    /// A commit was made, with this id.
-    Committed(ObjectId),
+    Accepted(Answer),
     Refused(Refusal),
 }
 
@@ -20,7 +20,7 @@ impl Reply {
         ensures { result ≡ is_accepted self.now }
     {
         match self {
-            Reply::Committed(_) => true,
+            Reply::Accepted(_) => true,
             Reply::Refused(_) => false,
         }
     }
@@ -31,20 +31,17 @@ fn push_reply(out: &mut Vec<u8>, reply: &Reply) -> Result<(), NoMemory>
     ensures ok { OnOk result (out.new.items ≡ out.old.items ++ reply_text reply.now) }
 {
     match reply {
-        Reply::Committed(id) => {
-            out.extend_from_slice(b"ok ")?;
-            id.push_hex(out)?;
-        }
+        Reply::Accepted(answer) => push_answer(out, answer),
         Reply::Refused(refusal) => {
             out.extend_from_slice(b"no ")?;
             push_refusal(out, refusal)?;
+            out.push(b'\n')?;
+            Ok(())
         }
     }
-    out.push(b'\n')?;
-    Ok(())
 }
 
-/// The line of a reply, with its newline.
+/// The lines of a reply, each with its newline.
 pub fn print_reply(alloc: Global, reply: &Reply) -> Result<Bytes, NoMemory>
     ensures { IfOk result (λ line. line ≡ reply_text reply.now) }
 {

@@ -3,8 +3,7 @@
 ghost use Rattle.std.specs.Prelude.{◌≡◌, ◌≤◌, ◌↔◌, ◌^◌, OnOk, IfErr};
 ghost use Rattle.gx_store.specs.Faults.{Rose};
 ghost use Rattle.gx_store.specs.Outside.{Writes};
-ghost use Rattle.gix.specs.Repository.{store_of, settings_of};
-ghost use Rattle.gx_tool.specs.Course.{Served, WritesFront, IsApply, Answers};
+ghost use Rattle.gx_tool.specs.Course.{Served, WritesFront, IsApply, Answers, moment_of};
 
 use crate::executing::{ExecuteError, execute};
 use crate::reply::print_reply;
@@ -20,7 +19,6 @@ use std::alloc::Global;
 const SCRIPT_LIMIT: u64 = 1 << 40;
 
 /// Writes all of the bytes. After an `Err` a front of them is written.
-#[tactic(auto, using(crate::proofs::OutsideLemmas::up_to_more, crate::proofs::OutsideLemmas::up_to_all, crate::proofs::OutsideLemmas::up_to_front, crate::proofs::OutsideLemmas::rose_before))]
 fn write_all<O: Sink>(output: &mut O, bytes: &[u8]) -> Result<(), SinkError>
     ensures ok { OnOk result (Writes (O.written output.old) (O.written output.new) bytes.now) }
     ensures err { IfErr result (λ e. WritesFront (O.written output.old) (O.written output.new) bytes.now) }
@@ -44,25 +42,10 @@ fn serve<S: Store, I: Source, O: Sink>(
     input: &mut I,
     output: &mut O,
 ) -> Status
-    ensures served { Served limit
-        record {
-          settings = settings_of repo.old;
-          store = S.state (store_of repo.old);
-          left = I.left input.old;
-          written = O.written output.old;
-          source_faults = I.faults input.old;
-          sink_faults = O.faults output.old;
-        }
-        record {
-          settings = settings_of repo.new;
-          store = S.state (store_of repo.new);
-          left = I.left input.new;
-          written = O.written output.new;
-          source_faults = I.faults input.new;
-          sink_faults = O.faults output.new;
-        }
+    ensures { Served limit
+        (moment_of S.state I.left I.faults O.written O.faults repo.old input.old output.old)
+        (moment_of S.state I.left I.faults O.written O.faults repo.new input.new output.new)
         result }
-    ensures settings { settings_of repo.new ≡ settings_of repo.old }
 {
     let mut reader = match ScriptReader::new(alloc, repo.object_hash(), limit) {
         Ok(reader) => reader,
@@ -115,24 +98,9 @@ pub fn run_limited<S: Store, I: Source, O: Sink>(
     ensures untouched { (IsApply words.now → ⊥) → (repo.new ≡ repo.old) × (input.new ≡ input.old)
         × (output.new ≡ output.old) }
     ensures answers { IsApply words.now → Answers limit
-        record {
-          settings = settings_of repo.old;
-          store = S.state (store_of repo.old);
-          left = I.left input.old;
-          written = O.written output.old;
-          source_faults = I.faults input.old;
-          sink_faults = O.faults output.old;
-        }
-        record {
-          settings = settings_of repo.new;
-          store = S.state (store_of repo.new);
-          left = I.left input.new;
-          written = O.written output.new;
-          source_faults = I.faults input.new;
-          sink_faults = O.faults output.new;
-        }
+        (moment_of S.state I.left I.faults O.written O.faults repo.old input.old output.old)
+        (moment_of S.state I.left I.faults O.written O.faults repo.new input.new output.new)
         result }
-    ensures settings { settings_of repo.new ≡ settings_of repo.old }
 {
     match parse_words(words) {
         Err(_) => Status::BadWords.code(),
@@ -160,24 +128,9 @@ pub fn run<S: Store, I: Source, O: Sink>(
     ensures untouched { (IsApply words.now → ⊥) → (repo.new ≡ repo.old) × (input.new ≡ input.old)
         × (output.new ≡ output.old) }
     ensures answers { IsApply words.now → Answers (2 ^ 40)
-        record {
-          settings = settings_of repo.old;
-          store = S.state (store_of repo.old);
-          left = I.left input.old;
-          written = O.written output.old;
-          source_faults = I.faults input.old;
-          sink_faults = O.faults output.old;
-        }
-        record {
-          settings = settings_of repo.new;
-          store = S.state (store_of repo.new);
-          left = I.left input.new;
-          written = O.written output.new;
-          source_faults = I.faults input.new;
-          sink_faults = O.faults output.new;
-        }
+        (moment_of S.state I.left I.faults O.written O.faults repo.old input.old output.old)
+        (moment_of S.state I.left I.faults O.written O.faults repo.new input.new output.new)
         result }
-    ensures settings { settings_of repo.new ≡ settings_of repo.old }
 {
     run_limited(alloc, words, now, repo, input, output, SCRIPT_LIMIT)
 }

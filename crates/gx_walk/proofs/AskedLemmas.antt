@@ -6,11 +6,12 @@ use Rattle.std.specs.Prelude.{◌||◌}
 use Rattle.std.proofs.lemmas.Bool.{cases_Bool, both_ways, false≢true, or_left, or_right}
 use Rattle.gx_hash.specs.ObjectId.{id_cmp}
 use Rattle.gx_hash.specs.declared.oid.ObjectId.{ObjectId}
-use Rattle.gx_walk.specs.Ids.{has_id}
+use Rattle.gx_hash.specs.ObjectIds.{id_eq, has_id}
+use Rattle.gx_hash.specs.Laws.{own_id}
 use Rattle.gx_walk.specs.Simple.{Asks, AskedOnce, answer_at}
 use Rattle.gx_walk.specs.Frontier.{IsAskedBy}
 use Rattle.gx_walk.specs.declared.commit.frontier.Frontier.{Frontier}
-use Rattle.gx_walk.proofs.IdLemmas.{itself, cases_id, get_push}
+use Rattle.gx_walk.proofs.IdLemmas.{itself_at, cases_at, get_push}
 
 abbrev pub Answers : Type 0
 Answers = List (ObjectId × Bool)
@@ -37,7 +38,7 @@ none_some (Some b) h = absurd (h refl)
 
 -- an id that is asked about for the first time
 pub answer_new : (asked : Answers) (id : ObjectId) (a : Bool) → (IsSome (answer_at asked id) → ⊥) → answer_at (asked ++ (id, a) ∷ []) id ≡ Some a
-answer_new [] id a none = rw (itself id) refl
+answer_new [] id a none = rw (itself_at id) refl
 answer_new (p ∷ ps) id a none = elim (cases_Bool (is_at (id_cmp id) p.0)) [
   | inl e ↦ absurd (none (rw e refl))
   | inr ne ↦ rw ne (answer_new ps id a (rw ne at none))
@@ -54,7 +55,7 @@ answer_other (p ∷ ps) id q a ne = elim (cases_Bool (is_at (id_cmp q) p.0)) [
 -- what stands in the list was asked about
 answered_at : (asked : Answers) (i : ℕ) (id : ObjectId) (a : Bool) → slice_get asked i ≡ Some (id, a) → IsSome (answer_at asked id)
 answered_at [] i id a h = cc
-answered_at (p ∷ ps) zero id a h = let e : p ≡ (id, a) = cc in let f : p.0 ≡ id = ap (λ w. w.0) e in rw (f, itself id) refl
+answered_at (p ∷ ps) zero id a h = let e : p ≡ (id, a) = cc in let f : p.0 ≡ id = ap (λ w. w.0) e in rw (f, itself_at id) refl
 answered_at (p ∷ ps) (suc i) id a h = elim (cases_Bool (is_at (id_cmp id) p.0)) [
   | inl e ↦ rw e refl
   | inr ne ↦ rw ne (answered_at ps i id a h)
@@ -102,11 +103,11 @@ asked_same f g it same more = record {
 }
 
 -- one more id was asked about
-pub asked_more : (f g : Frontier) (id : ObjectId) (a : Bool) → IsAskedBy f → has_id f.seen id ≡ false → ((q : ObjectId) → has_id g.seen q ≡ (is_at (id_cmp id) q || has_id f.seen q)) → g.asked.items ≡ f.asked.items ++ (id, a) ∷ [] → IsAskedBy g
+pub asked_more : (f g : Frontier) (id : ObjectId) (a : Bool) → IsAskedBy f → has_id f.seen id ≡ false → ((q : ObjectId) → has_id g.seen q ≡ (id_eq id q || has_id f.seen q)) → g.asked.items ≡ f.asked.items ++ (id, a) ∷ [] → IsAskedBy g
 asked_more f g id a it unseen seen is = record {
   once = subst AskedOnce (sym is) (asked_once_push f.asked.items id a it.once (λ some. both_ways _ unseen (it.within id some)));
-  within = λ q some. elim (cases_id q id) [
-    | inl e ↦ seen q ∙ or_left _ _ (subst (λ w. is_at (id_cmp id) w ≡ true) (sym e) (itself id))
+  within = λ q some. elim (cases_at q id) [
+    | inl e ↦ seen q ∙ or_left _ _ (subst (λ w. id_eq id w ≡ true) (sym e) (own_id id))
     | inr ne ↦ seen q ∙ or_right _ _ (it.within q (subst IsSome (answer_other f.asked.items id q a ne) (subst (λ w. IsSome (answer_at w q)) is some)))
   ];
 }

@@ -5,7 +5,7 @@ use Rattle.std.proofs.lemmas.Bool.{or_cases, or_right, or_parts, or_from, falseâ
 use Rattle.std.proofs.lemmas.Int.{ints}
 use Rattle.std.proofs.lemmas.List.{flat_map_more, take-append-le}
 use Rattle.gx_hash.specs.declared.oid.ObjectId.{ObjectId}
-use Rattle.gx_walk.specs.Ids.{has_id}
+use Rattle.gx_hash.specs.ObjectIds.{has_id}
 use Rattle.gx_walk.specs.History.{History, time_of}
 use Rattle.gx_walk.specs.Walk.{PrecedesByTime, Precedes, IsInTime}
 use Rattle.gx_walk.specs.Rank.{rank_of, rank_by_time}

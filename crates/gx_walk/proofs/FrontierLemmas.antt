@@ -13,16 +13,16 @@ use Rattle.std.proofs.lemmas.Bool.Decides.{nat_tests, Decides-int_eq}
 use Rattle.std.proofs.lemmas.List.{take-append-le}
 use Rattle.std.proofs.lemmas.Option.{slice_get_within}
 use Rattle.std.proofs.lemmas.Int.{ints}
-use Rattle.gx_hash.specs.ObjectId.{id_cmp}
 use Rattle.gx_hash.specs.declared.oid.ObjectId.{ObjectId}
-use Rattle.gx_walk.specs.Ids.{has_id}
+use Rattle.gx_hash.specs.ObjectIds.{id_eq, has_id}
+use Rattle.gx_hash.specs.Laws.{own_id}
 use Rattle.gx_walk.specs.History.{History, time_of}
 use Rattle.gx_walk.specs.Walk.{IsInTime}
 use Rattle.gx_walk.specs.Simple.{answer_at}
 use Rattle.gx_walk.specs.Frontier.{key_cmp, rank_at, Admits, IsEmpty, IsQueued, IsFrontier, IsBest, IsSpent, IsReadFor}
 use Rattle.gx_walk.specs.declared.commit.frontier.Frontier.{Frontier}
 use Rattle.gx_walk.specs.declared.commit.sorting.Sorting.{Sorting}
-use Rattle.gx_walk.proofs.IdLemmas.{itself, cases_id, has_id-append, has_id_get, has_id_take, has_self, place_of, single, get_push, take_push, get_front, get_last}
+use Rattle.gx_walk.proofs.IdLemmas.{cases_id, cases_at, has_id-append, has_id_get, has_id_take, has_self, place_of, single, get_push, take_push, get_front, get_last}
 use Rattle.gx_walk.proofs.AskedLemmas.{answer_on, answer_back, answer_new, answer_other}
 
 -- ---- keys of the queue
@@ -181,7 +181,7 @@ module _ (history : History) (sorting : Sorting) (excluded : ObjectId → Bool) 
 
     -- ---- an id that the filter is asked about
 
-    module _ (answer : Bool) (inside : excluded id ≡ false) (unseen : has_id f.seen id ≡ false) (seen : (q : ObjectId) → has_id g.seen q ≡ (map.is_at (id_cmp id) q || has_id f.seen q)) (asked : g.asked.items ≡ f.asked.items ++ (id, answer) ∷ []) (reads : answer ≡ true → IsReadFor sorting history id) where
+    module _ (answer : Bool) (inside : excluded id ≡ false) (unseen : has_id f.seen id ≡ false) (seen : (q : ObjectId) → has_id g.seen q ≡ (id_eq id q || has_id f.seen q)) (asked : g.asked.items ≡ f.asked.items ++ (id, answer) ∷ []) (reads : answer ≡ true → IsReadFor sorting history id) where
       unasked : IsSome (answer_at f.asked.items id) → ⊥
       unasked some = both_ways _ unseen (it.asked_in id some)
 
@@ -205,9 +205,9 @@ module _ (history : History) (sorting : Sorting) (excluded : ObjectId → Bool) 
 
       new_seen : (q : ObjectId) → has_id g.seen q ≡ (not (excluded q) && has_id (mentioned ++ id ∷ []) q)
       new_seen q = elim (cases_id id q) [
-        | inl e ↦ seen q ∙ or_left _ _ (subst (λ w. map.is_at (id_cmp id) w ≡ true) e (itself id))
+        | inl e ↦ seen q ∙ or_left _ _ (subst (λ w. id_eq id w ≡ true) e (own_id id))
             ∙ sym (and_from _ _ (not_from_false _ (subst (λ w. excluded w ≡ false) e inside)) (rw has_id-append (or_right _ _ (subst (λ w. has_id (id ∷ []) w ≡ true) e (has_self id)))))
-        | inr ne ↦ seen q ∙ either _ _ ne ∙ it.seen_is q ∙ ap (λ w. not (excluded q) && w) (sym (has_id-append mentioned (id ∷ []) q ∙ left (has_id mentioned q) (has_id (id ∷ []) q) (false_from_ne_true _ (λ e. both_ways _ ne (subst (λ w. map.is_at (id_cmp id) w ≡ true) (single id q e) (itself id))))))
+        | inr ne ↦ seen q ∙ either _ _ ne ∙ it.seen_is q ∙ ap (λ w. not (excluded q) && w) (sym (has_id-append mentioned (id ∷ []) q ∙ left (has_id mentioned q) (has_id (id ∷ []) q) (false_from_ne_true _ (λ e. both_ways _ ne (subst (λ w. id_eq id w ≡ true) (single id q e) (own_id id))))))
       ]
         where
           left : (a b : Bool) → b ≡ false → (a || b) ≡ a
@@ -215,8 +215,8 @@ module _ (history : History) (sorting : Sorting) (excluded : ObjectId → Bool) 
           left false b h = h
 
       new_asked_in : (q : ObjectId) → IsSome (answer_at g.asked.items q) → has_id g.seen q ≡ true
-      new_asked_in q some = elim (cases_id q id) [
-        | inl e ↦ seen q ∙ or_left _ _ (subst (λ w. map.is_at (id_cmp id) w ≡ true) (sym e) (itself id))
+      new_asked_in q some = elim (cases_at q id) [
+        | inl e ↦ seen q ∙ or_left _ _ (subst (λ w. id_eq id w ≡ true) (sym e) (own_id id))
         | inr ne ↦ seen q ∙ or_right _ _ (it.asked_in q (subst IsSome (answer_other f.asked.items id q answer ne) (rw asked at some)))
       ]
 
@@ -284,16 +284,16 @@ module _ (history : History) (sorting : Sorting) (excluded : ObjectId → Bool) 
 
     -- ---- an id about which the filter may have been asked
 
-    seen_before : has_id f.seen id ≡ true → (q : ObjectId) → (map.is_at (id_cmp id) q || has_id f.seen q) ≡ has_id f.seen q
+    seen_before : has_id f.seen id ≡ true → (q : ObjectId) → (id_eq id q || has_id f.seen q) ≡ has_id f.seen q
     seen_before known q = elim (cases_id id q) [
       | inl e ↦
           let there : has_id f.seen q ≡ true = subst (λ w. has_id f.seen w ≡ true) e known in
-          or_right (map.is_at (id_cmp id) q) (has_id f.seen q) there ∙ sym there
+          or_right (id_eq id q) (has_id f.seen q) there ∙ sym there
       | inr ne ↦ either _ _ ne
     ]
 
     -- it is not queued: it was seen before, or it is refused
-    pub mention_answered : (answer : Bool) → excluded id ≡ false → ((q : ObjectId) → has_id g.seen q ≡ (map.is_at (id_cmp id) q || has_id f.seen q))
+    pub mention_answered : (answer : Bool) → excluded id ≡ false → ((q : ObjectId) → has_id g.seen q ≡ (id_eq id q || has_id f.seen q))
         → ((has_id f.seen id ≡ true) × (g.asked.items ≡ f.asked.items) × (answer ≡ false)) ⊎ ((has_id f.seen id ≡ false) × (g.asked.items ≡ f.asked.items ++ (id, answer) ∷ []))
         → (answer ≡ true → IsReadFor sorting history id) → (answer ≡ true → IsInTime sorting (time_of history id) → ⊥) → g.queue.entries ≡ f.queue.entries
         → IsFrontier history sorting excluded (mentioned ++ id ∷ []) listed g
@@ -303,7 +303,7 @@ module _ (history : History) (sorting : Sorting) (excluded : ObjectId → Bool) 
     ]
 
     -- it is queued
-    pub mention_queued : excluded id ≡ false → ((q : ObjectId) → has_id g.seen q ≡ (map.is_at (id_cmp id) q || has_id f.seen q))
+    pub mention_queued : excluded id ≡ false → ((q : ObjectId) → has_id g.seen q ≡ (id_eq id q || has_id f.seen q))
         → ((has_id f.seen id ≡ true) × (g.asked.items ≡ f.asked.items) × (true ≡ false)) ⊎ ((has_id f.seen id ≡ false) × (g.asked.items ≡ f.asked.items ++ (id, true) ∷ []))
         → IsReadFor sorting history id → (at : ℤ) → at ≡ rank_at history sorting excluded id → IsInTime sorting (time_of history id)
         → map.Updates key_cmp f.queue g.queue (at, f.count) (Some id) → IsFrontier history sorting excluded (mentioned ++ id ∷ []) listed g

@@ -1,27 +1,26 @@
 -- A walk that passes over what is hidden lists the walk without it.
 use Rattle.std.proofs.Common.{◌≡◌, ℕ, ℤ, zero, suc, ◌≤◌, ◌<ℤ◌, List, [], ◌∷◌, ◌++◌, Bool, true, false, not, subst, sym, ap, ◌∙◌, arith, refl, inl, inr, ◌⊎◌, length, take, append-nil, Some}
 use Rattle.std.specs.List.{slice_get, filter, flat_map}
-use Rattle.std.specs.BTreeMap.{is_at}
 use Rattle.std.specs.Prelude.{◌&&◌, ◌||◌}
 use Rattle.std.proofs.lemmas.Bool.{and_from, and_parts, or_left, or_right, or_cases, false≢true, both_ways, cases_Bool, cond-true, and_right}
 use Rattle.std.proofs.lemmas.List.{take_all}
 use Rattle.std.proofs.lemmas.List.Elements.{filter-append}
 use Rattle.std.proofs.lemmas.Int.{ints}
-use Rattle.gx_hash.specs.ObjectId.{id_cmp}
 use Rattle.gx_hash.specs.declared.oid.ObjectId.{ObjectId}
-use Rattle.gx_walk.specs.Ids.{has_id}
+use Rattle.gx_hash.specs.ObjectIds.{id_eq, has_id}
+use Rattle.gx_hash.specs.Laws.{own_id}
 use Rattle.gx_walk.specs.Walk.{mentions, PrecedesByTime, Precedes, IsNext, BeginsWalk, IsWalk}
 use Rattle.gx_walk.specs.declared.commit.sorting.CommitTimeOrder.{CommitTimeOrder}
 use Rattle.gx_walk.specs.declared.commit.sorting.CommitTimeOrder.TheVariants.{NewestFirst, OldestFirst}
 use Rattle.gx_walk.specs.declared.commit.sorting.Sorting.{Sorting}
 use Rattle.gx_walk.specs.declared.commit.sorting.Sorting.TheVariants.{BreadthFirst, ByCommitTime, ByCommitTimeCutoff}
-use Rattle.gx_walk.proofs.IdLemmas.{itself, cases_id, has_id-filter, has_id_get, place_of, get_at, take_get}
+use Rattle.gx_walk.proofs.IdLemmas.{cases_id, has_id-filter, has_id_get, place_of, get_at, take_get}
 use Rattle.gx_walk.proofs.WalkLemmas.{BeginsWalk-push}
 
 -- x stands in the list no later than y
 comes : ObjectId → ObjectId → List ObjectId → Bool
 comes x y [] = true
-comes x y (m ∷ ms) = is_at (id_cmp x) m || (not (is_at (id_cmp y) m) && comes x y ms)
+comes x y (m ∷ ms) = id_eq m x || (not (id_eq m y) && comes x y ms)
 
 int_cases : (t u : ℤ) → (t <ℤ u) ⊎ ((t ≡ u) ⊎ (u <ℤ t))
 int_cases t u = grind (arith, ints)
@@ -47,44 +46,44 @@ Precedes_cases BreadthFirst t u = inr (inl (λ i j h. h, λ i j h. h))
 Precedes_cases (ByCommitTime order) t u = by_time order t u
 Precedes_cases (ByCommitTimeCutoff order seconds) t u = by_time order t u
 
-unfold_comes : (x y m : ObjectId) (ms : List ObjectId) → comes x y (m ∷ ms) ≡ (is_at (id_cmp x) m || (not (is_at (id_cmp y) m) && comes x y ms))
+unfold_comes : (x y m : ObjectId) (ms : List ObjectId) → comes x y (m ∷ ms) ≡ (id_eq m x || (not (id_eq m y) && comes x y ms))
 unfolding comes
 unfold_comes x y m ms = refl
 
-apart : (x m : ObjectId) → (m ≡ x → ⊥) → is_at (id_cmp x) m ≡ false
-apart x m ne = elim (cases_id x m) [ inl e ↦ absurd (ne (sym e)) | inr f ↦ f ]
+apart : (x m : ObjectId) → (m ≡ x → ⊥) → id_eq m x ≡ false
+apart x m ne = elim (cases_id m x) [ inl e ↦ absurd (ne e) | inr f ↦ f ]
 
 -- from places
 comes_from_place : (ms : List ObjectId) (x y : ObjectId) (p : ℕ) → slice_get ms p ≡ Some x → ((j : ℕ) → slice_get ms j ≡ Some y → p ≤ j) → comes x y ms ≡ true
 comes_from_place [] x y p here least = cc
-comes_from_place (m ∷ ms) x y zero here least = let e : m ≡ x = cc in rw unfold_comes (or_left _ _ (subst (λ w. is_at (id_cmp x) w ≡ true) (sym e) (itself x)))
+comes_from_place (m ∷ ms) x y zero here least = let e : m ≡ x = cc in rw unfold_comes (or_left _ _ (subst (λ w. id_eq w x ≡ true) (sym e) (own_id x)))
 comes_from_place (m ∷ ms) x y (suc p) here least =
     let rest = comes_from_place ms x y p here (λ j at_y. let le : suc p ≤ suc j = least (suc j) at_y in omega arith) in
-    let ne : is_at (id_cmp y) m ≡ false = apart y m (λ e. let le : suc p ≤ 0 = least 0 (ap (λ w. Some w) e) in absurd (omega arith)) in
+    let ne : id_eq m y ≡ false = apart y m (λ e. let le : suc p ≤ 0 = least 0 (ap (λ w. Some w) e) in absurd (omega arith)) in
     rw (unfold_comes, ne, rest) (or_right _ _ refl)
 
 not_true : (b : Bool) → not b ≡ true → b ≡ false
 not_true true h = absurd (false≢true h)
 not_true false h = refl
 
-later : (m x : ObjectId) (ms : List ObjectId) → has_id (m ∷ ms) x ≡ true → is_at (id_cmp x) m ≡ false → has_id ms x ≡ true
+later : (m x : ObjectId) (ms : List ObjectId) → has_id (m ∷ ms) x ≡ true → id_eq m x ≡ false → has_id ms x ≡ true
 later m x ms h ne = elim (or_cases _ _ h) [ inl e ↦ absurd (both_ways _ ne e) | inr among ↦ among ]
 
-comes_tail : (m x y : ObjectId) (ms : List ObjectId) → comes x y (m ∷ ms) ≡ true → is_at (id_cmp x) m ≡ false → (is_at (id_cmp y) m ≡ false) × (comes x y ms ≡ true)
+comes_tail : (m x y : ObjectId) (ms : List ObjectId) → comes x y (m ∷ ms) ≡ true → id_eq m x ≡ false → (id_eq m y ≡ false) × (comes x y ms ≡ true)
 comes_tail m x y ms c ne =
-    let both : (not (is_at (id_cmp y) m) && comes x y ms) ≡ true = rw (unfold_comes, ne) at c in
-    let parts = and_parts (not (is_at (id_cmp y) m)) (comes x y ms) both in
-    (not_true (is_at (id_cmp y) m) parts.0, parts.1)
+    let both : (not (id_eq m y) && comes x y ms) ≡ true = rw (unfold_comes, ne) at c in
+    let parts = and_parts (not (id_eq m y)) (comes x y ms) both in
+    (not_true (id_eq m y) parts.0, parts.1)
 
-least_place : (m x : ObjectId) (p : ℕ) (ms : List ObjectId) → is_at (id_cmp x) m ≡ false → ((y : ObjectId) (j : ℕ) → comes x y ms ≡ true → slice_get ms j ≡ Some y → p ≤ j) → (y : ObjectId) (j : ℕ) → comes x y (m ∷ ms) ≡ true → slice_get (m ∷ ms) j ≡ Some y → suc p ≤ j
-least_place m x p ms ne least y zero c at_y = let e : m ≡ y = cc in absurd (both_ways _ (comes_tail m x y ms c ne).0 (subst (λ w. is_at (id_cmp y) w ≡ true) (sym e) (itself y)))
+least_place : (m x : ObjectId) (p : ℕ) (ms : List ObjectId) → id_eq m x ≡ false → ((y : ObjectId) (j : ℕ) → comes x y ms ≡ true → slice_get ms j ≡ Some y → p ≤ j) → (y : ObjectId) (j : ℕ) → comes x y (m ∷ ms) ≡ true → slice_get (m ∷ ms) j ≡ Some y → suc p ≤ j
+least_place m x p ms ne least y zero c at_y = let e : m ≡ y = cc in absurd (both_ways _ (comes_tail m x y ms c ne).0 (subst (λ w. id_eq w y ≡ true) (sym e) (own_id y)))
 least_place m x p ms ne least y (suc j) c at_y = let le : p ≤ j = least y j (comes_tail m x y ms c ne).1 at_y in omega arith
 
 -- the first place
 first_place : (ms : List ObjectId) (x : ObjectId) → has_id ms x ≡ true → (p : ℕ) × (slice_get ms p ≡ Some x) × ((y : ObjectId) (j : ℕ) → comes x y ms ≡ true → slice_get ms j ≡ Some y → p ≤ j)
 first_place [] x h = absurd (false≢true h)
-first_place (m ∷ ms) x h = elim (cases_id x m) [
-  | inl e ↦ (0, ap (λ w. Some w) (sym e), λ y j c here. omega arith)
+first_place (m ∷ ms) x h = elim (cases_id m x) [
+  | inl e ↦ (0, ap (λ w. Some w) e, λ y j c here. omega arith)
   | inr ne ↦
       let (p, here, least) = first_place ms x (later m x ms h ne) in
       (suc p, here, least_place m x p ms ne least)
@@ -96,8 +95,8 @@ comes-filter keep x y [] kx ky = refl
 comes-filter keep x y (m ∷ ms) kx ky = elim (cases_Bool (keep m)) [
   | inl kept ↦ rw (cond-true, unfold_comes, unfold_comes, comes-filter keep x y ms kx ky) refl
   | inr passed ↦
-      let mx : is_at (id_cmp x) m ≡ false = apart x m (λ e. both_ways (keep x) (sym (ap keep e) ∙ passed) kx) in
-      let my : is_at (id_cmp y) m ≡ false = apart y m (λ e. both_ways (keep y) (sym (ap keep e) ∙ passed) ky) in
+      let mx : id_eq m x ≡ false = apart x m (λ e. both_ways (keep x) (sym (ap keep e) ∙ passed) kx) in
+      let my : id_eq m y ≡ false = apart y m (λ e. both_ways (keep y) (sym (ap keep e) ∙ passed) ky) in
       rw (passed, unfold_comes, mx, my) (comes-filter keep x y ms kx ky)
 ]
 
@@ -110,7 +109,7 @@ mentions-filter : (follow : ObjectId → List ObjectId) (keep : ObjectId → Boo
 mentions-filter follow keep tips closed listed = rw (filter-append, filter-append) (ap (λ w. filter keep tips ++ w) (go listed)) where
   none : (ys : List ObjectId) → ((y : ObjectId) → has_id ys y ≡ true → keep y ≡ false) → filter keep ys ≡ []
   none [] all = refl
-  none (y ∷ ys) all = rw (all y (or_left _ _ (itself y))) (none ys (λ z h. all z (or_right _ _ h)))
+  none (y ∷ ys) all = rw (all y (or_left _ _ (own_id y))) (none ys (λ z h. all z (or_right _ _ h)))
 
   go : (xs : List ObjectId) → filter keep (flat_map follow (filter keep xs)) ≡ filter keep (flat_map follow xs)
   go [] = refl

@@ -4,7 +4,7 @@ use Rattle.std.specs.List.{filter}
 use Rattle.std.specs.Prelude.{◌↔◌}
 use Rattle.std.proofs.lemmas.Bool.{false≢true, both_ways, true_from_ne_false, cases_order, or_left, or_right}
 use Rattle.gx_hash.specs.declared.oid.ObjectId.{ObjectId}
-use Rattle.gx_walk.specs.Ids.{has_id}
+use Rattle.gx_hash.specs.ObjectIds.{has_id}
 use Rattle.gx_walk.specs.History.{History, time_of, Reaches}
 use Rattle.gx_walk.specs.History as reach
 use Rattle.gx_walk.specs.Walk.{ReachesThrough, start, step}

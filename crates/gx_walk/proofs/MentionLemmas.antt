@@ -3,9 +3,8 @@ use Rattle.std.proofs.Common.{◌≡◌, ℕ, ◌+◌, ◌<◌, Bool, true, fals
 use Rattle.std.specs.Prelude.{◌||◌}
 use Rattle.std.specs.BTreeMap as map
 use Rattle.std.proofs.lemmas.Bool.{false≢true, both_ways}
-use Rattle.gx_hash.specs.ObjectId.{id_cmp}
 use Rattle.gx_hash.specs.declared.oid.ObjectId.{ObjectId}
-use Rattle.gx_walk.specs.Ids.{has_id}
+use Rattle.gx_hash.specs.ObjectIds.{id_eq, has_id}
 use Rattle.gx_walk.specs.History.{History, time_of}
 use Rattle.gx_walk.specs.Rank.{rank_of}
 use Rattle.gx_walk.specs.Simple.{answer_at}
@@ -38,7 +37,7 @@ module _ (history : History) (sorting : Sorting) (excluded : ObjectId → Bool) 
     mentions_enqueued g h place at inside answered kept enqueued mentioned listed it =
         let a = subst (λ w. IsAnswered w g id true) counted answered in
         let count : h.count ≡ f.count + 1 = kept.count ∙ a.count in
-        let seen : (q : ObjectId) → has_id h.seen q ≡ (map.is_at (id_cmp id) q || has_id f.seen q) = λ q. ap (λ w. has_id w q) kept.seen ∙ a.seen q in
+        let seen : (q : ObjectId) → has_id h.seen q ≡ (id_eq id q || has_id f.seen q) = λ q. ap (λ w. has_id w q) kept.seen ∙ a.seen q in
         let asked = subst (λ (w : Answers). ((has_id f.seen id ≡ true) × (w ≡ f.asked.items) × (true ≡ false)) ⊎ ((has_id f.seen id ≡ false) × (w ≡ f.asked.items ++ (id, true) ∷ []))) (sym kept.asked) a.asked in
         elim enqueued.queue [
           | inl queued ↦ mention_queued history sorting excluded mentioned listed f h it id count inside seen asked enqueued.read (rank_of sorting (time_of history id)) refl queued.0

@@ -1,14 +1,13 @@
 -- What is found along parents is what some ids reach.
 use Rattle.std.proofs.Common.{◌≡◌, Bool, true, false, not, List, [], ◌∷◌, ◌++◌, sym, refl, ◌∙◌, subst, ◌⊎◌, inl, inr, IsSome}
-use Rattle.std.specs.BTreeMap.{is_at}
 use Rattle.std.specs.Prelude.{◌||◌, ◌↔◌}
 use Rattle.std.proofs.lemmas.Bool.{or_cases, or_left, or_right, false≢true}
-use Rattle.gx_hash.specs.ObjectId.{id_cmp}
 use Rattle.gx_hash.specs.declared.oid.ObjectId.{ObjectId}
-use Rattle.gx_walk.specs.Ids.{has_id}
+use Rattle.gx_hash.specs.ObjectIds.{id_eq, has_id}
+use Rattle.gx_hash.specs.Laws.{same_id, own_id}
 use Rattle.gx_walk.specs.History.{History, Reaches, start, step}
 use Rattle.gx_walk.specs.Reaching.{IsReaching}
-use Rattle.gx_walk.proofs.IdLemmas.{same_id, itself, has_id-append, has_self, single}
+use Rattle.gx_walk.proofs.IdLemmas.{has_id-append, has_self, single}
 
 pub reaching_start : (history : History) (follow : ObjectId → List ObjectId) (ids found : List ObjectId) → found ≡ [] → IsReaching history follow ids found ids
 reaching_start history follow ids found empty = record {
@@ -18,12 +17,12 @@ reaching_start history follow ids found empty = record {
   read = λ x h. absurd (false≢true (rw empty at h));
 }
 
-module _ (history : History) (follow : ObjectId → List ObjectId) (ids found rest : List ObjectId) (id : ObjectId) (it : IsReaching history follow ids found (rest ++ id ∷ [])) (more : List ObjectId) (added : (one : ObjectId) → has_id more one ≡ (is_at (id_cmp id) one || has_id found one)) where
+module _ (history : History) (follow : ObjectId → List ObjectId) (ids found rest : List ObjectId) (id : ObjectId) (it : IsReaching history follow ids found (rest ++ id ∷ [])) (more : List ObjectId) (added : (one : ObjectId) → has_id more one ≡ (id_eq id one || has_id found one)) where
   found_cases : (x : ObjectId) → has_id more x ≡ true → (id ≡ x) ⊎ (has_id found x ≡ true)
   found_cases x h = elim (or_cases _ _ (sym (added x) ∙ h)) [ inl e ↦ inl (same_id id x e) | inr before ↦ inr before ]
 
   here : has_id more id ≡ true
-  here = added id ∙ or_left _ _ (itself id)
+  here = added id ∙ or_left _ _ (own_id id)
 
   stays : (x : ObjectId) → has_id found x ≡ true → has_id more x ≡ true
   stays x h = added x ∙ or_right _ _ h

@@ -6,7 +6,7 @@ use Rattle.gx_walk.specs.Causes.{CommitCauses}
 use Rattle.gx_walk.specs.Course.{IfUnderWay, IsUnderWay, AreSets}
 use Rattle.gx_walk.specs.Frontier.{is_excluded, IsAdmittedOf, IsBest, IsFrontier, Mentions, TakesBest, TakesNone}
 use Rattle.gx_walk.specs.History.{History, Node, Told, cut, followed, parents_in, time_in, Reaches}
-use Rattle.gx_walk.specs.Ids.{has_id}
+use Rattle.gx_hash.specs.ObjectIds.{has_id}
 use Rattle.gx_walk.specs.Simple.{follow, mentioned, time_told, IsHidden, IsNamed, IsNextInfo, IsWhole}
 use Rattle.gx_walk.specs.declared.commit.course.Course.{Course}
 use Rattle.gx_walk.specs.declared.commit.frontier.Frontier.{Frontier}

@@ -1,7 +1,7 @@
 -- The progress of a walk.
 use Rattle.std.specs.Prelude.{◌≡◌, ◌↔◌, ℕ, true, List, [], ◌∷◌, ◌++◌, take, slice_get, Option, Some, None, IsSome, MatchBool}
 use Rattle.gx_hash.specs.declared.oid.ObjectId.{ObjectId}
-use Rattle.gx_walk.specs.Ids.{has_id}
+use Rattle.gx_hash.specs.ObjectIds.{has_id}
 use Rattle.gx_store.specs.State.{StoreState}
 use Rattle.gx_walk.specs.History.{History, Told}
 use Rattle.gx_walk.specs.Simple.{IsHidden, BeginsWalkOf, mentioned}

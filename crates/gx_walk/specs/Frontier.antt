@@ -3,9 +3,8 @@ use Rattle.std.specs.Prelude.{◌≡◌, ◌⊎◌, ℕ, ◌≤◌, ℤ, ◌<ℤ
 use Rattle.std.specs.declared.cmp.Ordering.{Ordering}
 use Rattle.std.specs.Ordering.{nat_cmp, int_cmp, ordering_then}
 use Rattle.std.specs.BTreeMap as map
-use Rattle.gx_hash.specs.ObjectId.{id_cmp}
 use Rattle.gx_hash.specs.declared.oid.ObjectId.{ObjectId}
-use Rattle.gx_walk.specs.Ids.{has_id}
+use Rattle.gx_hash.specs.ObjectIds.{id_eq, has_id}
 use Rattle.gx_walk.specs.History.{History, time_of}
 use Rattle.gx_walk.specs.Rank.{rank_of, IsByTime}
 use Rattle.gx_walk.specs.Walk.{IsInTime}
@@ -42,7 +41,7 @@ pub record IsAskedBy (f : Frontier) : Type 0 where
 pub record IsAnswered (old new : Frontier) (id : ObjectId) (admitted : Bool) : Type 0 where
   pub queue : new.queue ≡ old.queue
   pub count : new.count ≡ old.count
-  pub seen : (one : ObjectId) → has_id new.seen one ≡ (map.is_at (id_cmp id) one || has_id old.seen one)
+  pub seen : (one : ObjectId) → has_id new.seen one ≡ (id_eq id one || has_id old.seen one)
   pub asked : ((has_id old.seen id ≡ true) × (new.asked.items ≡ old.asked.items) × (admitted ≡ false))
       ⊎ ((has_id old.seen id ≡ false) × (new.asked.items ≡ old.asked.items ++ (id, admitted) ∷ []))
 

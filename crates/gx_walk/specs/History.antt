@@ -9,7 +9,7 @@ use Rattle.gx_object.specs.CommitSpelling.{CommitText, SpellsCommit}
 use Rattle.gx_object.specs.TimeSpelling.{BeginsWithSeconds}
 use Rattle.gx_store.specs.Content.{Content}
 use Rattle.gx_store.specs.State.{StoreState}
-use Rattle.gx_walk.specs.Ids.{has_id}
+use Rattle.gx_hash.specs.ObjectIds.{has_id}
 use Rattle.gx_walk.specs.declared.commit.sorting.Parents.{Parents}
 use Rattle.gx_walk.specs.declared.commit.sorting.Parents.TheVariants.{All, First}
 

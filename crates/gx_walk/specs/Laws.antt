@@ -1,7 +1,7 @@
 -- What holds of every walk.
 use Rattle.std.specs.Prelude.{◌≡◌, ◌↔◌, ℕ, ℤ, Bool, true, false, List, [], ◌∷◌, ◌++◌, filter, slice_get, Some}
 use Rattle.gx_hash.specs.declared.oid.ObjectId.{ObjectId}
-use Rattle.gx_walk.specs.Ids.{has_id}
+use Rattle.gx_hash.specs.ObjectIds.{has_id}
 use Rattle.gx_walk.specs.History.{History, time_of, Reaches}
 use Rattle.gx_walk.specs.Walk.{IsInTime, ReachesThrough}
 use Rattle.gx_walk.specs.Simple.{follow, answer_at, IsHidden, AllAsked, IsNextOf, BeginsWalkOf, IsWalkOf, IsWhole}

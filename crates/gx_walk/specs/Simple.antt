@@ -8,7 +8,7 @@ use Rattle.gx_hash.specs.ObjectId.{id_cmp}
 use Rattle.gx_hash.specs.declared.oid.ObjectId.{ObjectId}
 use Rattle.gx_hash.specs.contracts.oid.ObjectId as object_id
 use Rattle.gx_store.specs.State.{StoreState}
-use Rattle.gx_walk.specs.Ids.{has_id}
+use Rattle.gx_hash.specs.ObjectIds.{has_id}
 use Rattle.gx_walk.specs.History.{History, Told, time_of, followed, Reaches}
 use Rattle.gx_walk.specs.Walk.{mentions, IsInTime, IsNext, BeginsWalk, IsWalk}
 use Rattle.gx_walk.specs.Causes.{CommitCauses}

@@ -25,10 +25,12 @@ pub struct Graph<T> {
 
 impl<T> Graph<T> {
     ghost use Rattle.gx_hash.specs.declared.oid.ObjectId.{ObjectId};
-    ghost use Rattle.gx_walk.specs.Graph.{commit_in, graph_len, IsEmpty, Puts};
+    ghost use Rattle.gx_store.specs.State.{StoreState};
+    ghost use Rattle.gx_walk.specs.Graph.{commit_in, graph_len, IsEmpty, IsGraphIn, Puts};
 
     pub fn new(alloc: Global) -> Graph<T>
-        ensures { IsEmpty result }
+        ensures empty { IsEmpty result }
+        ensures known { (state : StoreState) → IsGraphIn state result }
     {
         Graph {
             commits: BTreeMap::new(alloc),

@@ -134,3 +134,6 @@ stands hash d es canonical left agrees = record { canonical = canonical; leaves 
     go p (Some x) e w = e ∙ sym (left p x e)
     go p None e (inl same) = same
     go p None e (inr apart) = e ∙ sym (edited_none hash no_paths es p apart refl)
+
+-- what a directory's leaves stand in, by its first entry
+pub ruleset standing = (in_end, in_file, in_sub)

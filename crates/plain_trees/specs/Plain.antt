@@ -25,6 +25,7 @@ abbrev pub id_parts : ObjectId → List ℕ ⊎ List ℕ
 id_parts (Sha1 bytes) = inl bytes
 id_parts (Sha256 bytes) = inr bytes
 
+-- the id of the parts
 abbrev pub id_of_parts : List ℕ ⊎ List ℕ → ObjectId
 id_of_parts (inl bytes) = Sha1 bytes
 id_of_parts (inr bytes) = Sha256 bytes
@@ -33,14 +34,19 @@ pub id_of_parts-id_parts : (id : ObjectId) → id_of_parts (id_parts id) ≡ id
 id_of_parts-id_parts (Sha1 bytes) = refl
 id_of_parts-id_parts (Sha256 bytes) = refl
 
+-- how names are coded as trees
 abbrev pub name_code : Coded (List ℕ)
 name_code = coded_list coded_ℕ
 
+-- how ids are, by their parts
 abbrev pub id_code : Coded ObjectId
 id_code = code_by (List ℕ ⊎ List ℕ) (coded⊎ name_code name_code) id_parts id_of_parts id_of_parts-id_parts
 
+-- how leaves are, by their mode and id
 abbrev pub leaf_code : Coded Leaf
-leaf_code = code_by (ℕ × ObjectId) (coded× coded_ℕ id_code) (λ leaf. (leaf.mode.value, leaf.id)) (λ p. record { mode = record { value = p.0 }; id = p.1 }) (λ _. refl)
+leaf_code =
+    code_by (ℕ × ObjectId) (coded× coded_ℕ id_code) (λ leaf. (leaf.mode.value, leaf.id))
+    (λ p. record { mode = record { value = p.0 }; id = p.1 }) (λ _. refl)
 
 -- a directory as a tree of its names and leaves
 abbrev pub code_of : Directory → Gv
@@ -67,6 +73,7 @@ code_of-injective (Sub n i r) (Sub m j s) h =
     let rests : r ≡ s = code_of-injective r s (cc) in
     cc
 
+-- how directories are: no two have the same tree
 abbrev pub directory_code : Coded Directory
 directory_code = record { code = code_of; inj = code_of-injective }
 
@@ -76,7 +83,8 @@ StandsIn m above directory = (p : Path) (leaf : Leaf) → leaf_at directory p �
 
 -- The directory has at the path of each edit what the map has there.
 abbrev pub AgreesAt : PathMap → Directory → List PathEdit → Type 0
-AgreesAt m directory edits = AllByRecursion (λ edit. leaf_at directory (components (path_of edit)) ≡ m (components (path_of edit))) edits
+AgreesAt m directory edits =
+    AllByRecursion (λ edit. leaf_at directory (components (path_of edit)) ≡ m (components (path_of edit))) edits
 
 -- what a directory has below its first entry, where that is a directory of the name
 abbrev pub first_inner : List ℕ → Directory → Directory

@@ -35,7 +35,7 @@ fn joined(alloc: Global, above: &[Bytes], name: &[u8]) -> Result<Vec<Bytes>, NoM
 
 impl Listing {
     /// Whether each leaf of the directory, which stands at `above`, is what the edits leave at its path.
-    #[tactic(auto, using(crate::proofs::PlainLemmas::in_end, crate::proofs::PlainLemmas::in_file, crate::proofs::PlainLemmas::in_sub))]
+    #[tactic(auto, using(crate::proofs::PlainLemmas::standing))]
     fn is_left_by(
         &self,
         alloc: Global,

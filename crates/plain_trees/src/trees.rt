@@ -256,8 +256,10 @@ fn is_only(name: &[u8], path: &[Bytes]) -> bool
 
 /// The path after its first name, where that is the given one.
 fn strip_name<'a>(name: &[u8], path: &'a [Bytes]) -> Option<&'a [Bytes]>
-    ensures { MatchOption result ((inner rest : Directory) → leaf_at (SubEntry name.now inner rest) path.now ≡ leaf_at rest path.now)
-        (λ below. (inner rest : Directory) → leaf_at (SubEntry name.now inner rest) path.now ≡ leaf_at inner below.now) }
+    ensures { MatchOption result
+        ((inner rest : Directory) → leaf_at (SubEntry name.now inner rest) path.now ≡ leaf_at rest path.now)
+        (λ below. (inner rest : Directory)
+        → leaf_at (SubEntry name.now inner rest) path.now ≡ leaf_at inner below.now) }
 {
     let Some((first, below)) = path.split_first() else {
         return None;

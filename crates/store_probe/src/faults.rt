@@ -4,8 +4,8 @@ use gx_edit::EditError;
 use gx_hash::ObjectId;
 use gx_object::{EntryKind, Field, Kind};
 use gx_refs::RefError;
-use gx_rules::ComponentError;
-use gx_store::{StoreError, What};
+use gx_rules::{ComponentError, FullName};
+use gx_store::{StoreError, Target, What};
 use probe_rows::ProbeError;
 use probe_rows::answers::{push_field, push_id, push_word, word};
 use std::alloc::Global;
@@ -52,6 +52,55 @@ pub fn reference_error(alloc: Global, error: &RefError) -> Result<Vec<u8>, Probe
         }
         RefError::Store { what } => failed(alloc, "store", what),
         RefError::NoMemory => Err(ProbeError::NoMemory),
+        _ => edit_refusal(alloc, error),
+    }
+}
+
+/// Why edits of references are refused.
+fn edit_refusal(alloc: Global, error: &RefError) -> Result<Vec<u8>, ProbeError> {
+    match error {
+        RefError::MustExist { name } => named(alloc, "must-exist", name.as_slice()),
+        RefError::MustNotExist { name, actual } => {
+            with_targets(alloc, "must-not-exist", name, &[actual])
+        }
+        RefError::ReferenceOutOfDate {
+            name,
+            expected,
+            actual,
+        } => with_targets(alloc, "reference-out-of-date", name, &[expected, actual]),
+        RefError::NameConflict { name, with } => {
+            let mut answer = named(alloc, "name-conflict", name.as_slice())?;
+            push_field(&mut answer, with.as_slice())?;
+            Ok(answer)
+        }
+        RefError::DuplicateEdit { name } => named(alloc, "duplicate-edit", name.as_slice()),
+        RefError::MissingCommitter => word(alloc, "missing-committer"),
+        RefError::Unwritable { field } => {
+            let mut answer = word(alloc, "unwritable")?;
+            push_word(&mut answer, field_name(*field))?;
+            Ok(answer)
+        }
+        _ => Err(ProbeError::UnknownCall),
+    }
+}
+
+fn with_targets(
+    alloc: Global,
+    variant: &str,
+    name: &FullName,
+    targets: &[&Target],
+) -> Result<Vec<u8>, ProbeError> {
+    let mut answer = named(alloc, variant, name.as_slice())?;
+    for target in targets {
+        push_target(&mut answer, target)?;
+    }
+    Ok(answer)
+}
+
+pub fn push_target(answer: &mut Vec<u8>, target: &Target) -> Result<(), ProbeError> {
+    match target {
+        Target::Object(id) => push_with_id(answer, "object", id),
+        Target::Symbolic(name) => push_named(answer, "symbolic", name.as_slice()),
     }
 }
 
@@ -137,10 +186,13 @@ fn component_error(error: ComponentError) -> &'static str {
     }
 }
 
-/// No tree has a field but its names.
+/// The fields that a tree, or a line of a log, has.
 fn field_name(field: Field) -> &'static str {
     match field {
         Field::FileName => "file-name",
+        Field::CommitterName => "committer-name",
+        Field::CommitterEmail => "committer-email",
+        Field::CommitterOffset => "committer-offset",
         _ => "another-field",
     }
 }

@@ -2,14 +2,14 @@
 
 use crate::faults::store_error;
 use crate::references::apply_one;
-use crate::values::{has_word, id_in, mode_in, name_in};
+use crate::values::{has_word, hash_in, id_in, mode_in, name_in};
 use gx_hash::{Bytes, HashKind};
-use gx_object::{Signature, Time, push_identity};
+use gx_object::{Signature, Time};
 use gx_refs::{WriteReflog, is_due, log_line};
 use gx_rules::FullName;
-use gx_store::{LogLine, Memory};
+use gx_store::{LineError, LogLine, Memory};
 use probe_rows::ProbeError;
-use probe_rows::answers::{quoted, signed_of, truth};
+use probe_rows::answers::{hex, push_field, push_shown, quoted, signed_of, truth, word};
 use std::alloc::Global;
 
 /// Whether a line is due for a name, of which the words say whether it is forced, whether there is a log, and whether
@@ -93,13 +93,28 @@ pub fn person(alloc: Global) -> Result<Signature, ProbeError> {
 
 /// The line as it stands in a file of Git's, without the newline.
 pub fn line_bytes(alloc: Global, line: &LogLine) -> Result<Vec<u8>, ProbeError> {
-    let mut text = Vec::new(alloc);
-    line.previous.push_hex(&mut text)?;
-    text.push(b' ')?;
-    line.new.push_hex(&mut text)?;
-    text.push(b' ')?;
-    push_identity(&mut text, &line.signature)?;
-    text.push(b'\t')?;
-    text.extend_from_slice(line.message.as_slice())?;
-    Ok(text)
+    Ok(line.to_bytes(alloc)?.into_vec())
+}
+
+/// What a line of a repository of the kind says: its ids, who and when, and its message.
+pub fn read_line(alloc: Global, fields: &[Vec<u8>]) -> Result<Vec<u8>, ProbeError> {
+    let [hash, text] = fields else {
+        return Err(ProbeError::BadLine);
+    };
+    match LogLine::from_bytes(alloc, text, hash_in(hash)?) {
+        Ok(line) => parts_of(alloc, &line),
+        Err(LineError::BadLine) => word(alloc, "bad-line"),
+        Err(LineError::NoMemory) => word(alloc, "no-memory"),
+    }
+}
+
+fn parts_of(alloc: Global, line: &LogLine) -> Result<Vec<u8>, ProbeError> {
+    let mut answer = hex(alloc, &line.previous)?;
+    push_shown(alloc, &mut answer, &line.new)?;
+    push_field(&mut answer, line.signature.name.as_slice())?;
+    push_field(&mut answer, line.signature.email.as_slice())?;
+    push_shown(alloc, &mut answer, &line.signature.time.seconds)?;
+    push_shown(alloc, &mut answer, &line.signature.time.offset)?;
+    push_field(&mut answer, line.message.as_slice())?;
+    Ok(answer)
 }

@@ -8,6 +8,7 @@ mod edits;
 mod faults;
 mod logs;
 mod path_maps;
+mod reference_edits;
 mod references;
 mod runs;
 mod store;
@@ -40,6 +41,7 @@ impl Answer for Libraries {
             "run" => runs::answer(alloc, fields),
             "is_due" => logs::due_of(alloc, fields),
             "log_line" => logs::line_of(alloc, fields),
+            "read_log_line" => logs::read_line(alloc, fields),
             "edits" => path_maps::answer_edits(alloc, fields),
             "path_map" => path_maps::answer_steps(alloc, fields),
             "editor" => editors::answer(alloc, fields),

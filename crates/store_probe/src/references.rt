@@ -2,19 +2,19 @@
 ghost use Rattle.std.specs.Prelude.{◌≡◌, IfOk};
 ghost use Rattle.gx_store.specs.Kinds.{IsTargetChangeOfKind, IsActOfKind};
 
-use crate::faults::{reference_error, store_error};
+use crate::faults::{push_target, reference_error, store_error};
 use crate::logs::{due, line_bytes, person};
 use crate::store::only;
 use crate::values::{has_word, id_in, mode_in, name_in};
 use gx_hash::{Bytes, HashKind, ObjectId};
-use gx_refs::{WriteReflog, chain, move_end, resolve};
+use gx_refs::{RefError, WriteReflog, chain, move_end, resolve};
 use gx_rules::FullName;
 use gx_store::{
     Lines, LogAct, LogLine, Memory, Names, Objects, RefChange, References, StoreError, Target,
     TargetChange,
 };
 use probe_rows::ProbeError;
-use probe_rows::answers::{id_of, push_field, push_id, push_word, quoted, shown, truth, word};
+use probe_rows::answers::{id_of, push_field, push_word, quoted, shown, truth, word};
 use std::alloc::Global;
 
 /// The answer of a call that reads references or their logs.
@@ -61,7 +61,7 @@ fn list(alloc: Global, store: &Memory, prefix: &[u8]) -> Result<Vec<u8>, ProbeEr
     }
 }
 
-fn told_names(alloc: Global, names: &Names) -> Result<Vec<u8>, ProbeError> {
+pub fn told_names(alloc: Global, names: &Names) -> Result<Vec<u8>, ProbeError> {
     let mut answer = Vec::new(alloc);
     for name in names.as_slice() {
         push_field(&mut answer, name.as_slice())?;
@@ -76,24 +76,17 @@ fn find(alloc: Global, store: &Memory, name: &FullName) -> Result<Vec<u8>, Probe
     match store.find(alloc, name) {
         Ok(found) => {
             let mut answer = Vec::new(alloc);
-            push_target(&mut answer, &found)?;
+            push_found(&mut answer, &found)?;
             Ok(answer)
         }
         Err(error) => store_error(alloc, &error),
     }
 }
 
-fn push_target(answer: &mut Vec<u8>, target: &Option<Target>) -> Result<(), ProbeError> {
+fn push_found(answer: &mut Vec<u8>, target: &Option<Target>) -> Result<(), ProbeError> {
     match target {
         None => push_word(answer, "none"),
-        Some(Target::Object(id)) => {
-            push_word(answer, "object")?;
-            push_id(answer, id)
-        }
-        Some(Target::Symbolic(name)) => {
-            push_word(answer, "symbolic")?;
-            push_field(answer, name.as_slice())
-        }
+        Some(target) => push_target(answer, target),
     }
 }
 
@@ -157,10 +150,10 @@ fn resolved(alloc: Global, store: &Memory, name: &FullName) -> Result<Vec<u8>, P
         Ok(chain) => {
             let mut answer = told_names(alloc, &chain.names)?;
             push_word(&mut answer, "->")?;
-            push_target(&mut answer, &chain.target)?;
+            push_found(&mut answer, &chain.target)?;
             Ok(answer)
         }
-        Err(error) => reference_error(alloc, &error),
+        Err(error) => reference_error(alloc, &RefError::from(error)),
     }
 }
 
@@ -316,7 +309,7 @@ fn move_to(
     }
     let chain = match resolve(alloc, store, name) {
         Ok(chain) => chain,
-        Err(error) => return reference_error(alloc, &error),
+        Err(error) => return reference_error(alloc, &RefError::from(error)),
     };
     match move_end(alloc, store, mode, &chain, id, &who, message) {
         Ok(changes) => outcome(alloc, store.apply(alloc, &changes)),

@@ -59,7 +59,8 @@ fn stepped(
         push_answer(answers, &ran(alloc, &mut repo, script)?)?;
         return Ok(repo);
     }
-    let mut settings = *repo.settings();
+    let mut settings = Settings::new();
+    settings.protect = repo.settings().protect;
     let mut store = repo.into_store();
     if is_windows(step) {
         settings.protect.windows = true;

@@ -2,8 +2,8 @@
 //! its fields. Each step is answered, with ` ; ` between two answers.
 
 use crate::faults::store_error;
-use crate::references;
 use crate::values::{hash_in, id_in, kind_in, name_in, number_in, word_in};
+use crate::{reference_edits, references};
 use gx_hash::ObjectId;
 use gx_object::Kind;
 use gx_store::{Memory, Objects, write_object};
@@ -48,6 +48,10 @@ pub fn answer_step(
         found => return found,
     }
     match references::read_by(alloc, store, call, fields) {
+        Err(ProbeError::UnknownCall) => {}
+        found => return found,
+    }
+    match reference_edits::read_by(alloc, store, call, fields) {
         Err(ProbeError::UnknownCall) => change_by(alloc, store, call, fields),
         found => found,
     }
@@ -80,6 +84,7 @@ fn change_by(
         "lead" => references::lead(alloc, store, fields),
         "apply" => references::apply(alloc, store, fields),
         "move" => references::move_by(alloc, store, fields),
+        "edit" => reference_edits::edit_by(alloc, store, fields),
         "write" => write(alloc, store, fields),
         _ => {
             prepare(alloc, store, call, fields)?;

@@ -54,22 +54,34 @@ fn parts_of_a_store_have_texts(rt: HostRuntime) {
     assert!(rt; parts(rt.alloc()).unwrap_or(false));
 }
 
-fn reference_errors(alloc: Global) -> Result<bool, NoMemory> {
-    let cycle = RefError::Cycle {
-        name: name_of(alloc, b"HEAD")?,
-    };
-    let deep = RefError::DepthLimitExceeded {
-        name: name_of(alloc, b"HEAD")?,
-    };
-    let store = RefError::Store {
-        what: What::Listing,
-    };
-    Ok(
-        says(alloc, &cycle, "the reference leads back into itself")?
-            && says(alloc, &deep, "the reference leads through too many others")?
-            && says(alloc, &store, "the store failed at Listing")?
-            && says(alloc, &RefError::NoMemory, "out of memory")?,
+fn says_of_cycles(alloc: Global) -> Result<bool, NoMemory> {
+    let name = name_of(alloc, b"HEAD")?;
+    says(
+        alloc,
+        &RefError::Cycle { name },
+        "HEAD leads back into itself",
     )
+}
+
+fn says_of_depth(alloc: Global) -> Result<bool, NoMemory> {
+    let name = name_of(alloc, b"HEAD")?;
+    let deep = RefError::DepthLimitExceeded { name };
+    says(alloc, &deep, "HEAD leads through too many others")
+}
+
+fn says_of_faults(alloc: Global) -> Result<bool, NoMemory> {
+    let what = What::Listing;
+    says(
+        alloc,
+        &RefError::Store { what },
+        "the store failed at Listing",
+    )
+}
+
+fn reference_errors(alloc: Global) -> Result<bool, NoMemory> {
+    let are_chains_told = says_of_cycles(alloc)? && says_of_depth(alloc)?;
+    let is_fault_told = says_of_faults(alloc)?;
+    Ok(are_chains_told && is_fault_told && says(alloc, &RefError::NoMemory, "out of memory")?)
 }
 
 #[test]

@@ -118,16 +118,18 @@ fn is_committed(alloc: Global) -> Result<bool, Fail> {
     Ok(made == Ok(ObjectId::from_hex(EMPTY)?))
 }
 
+fn strict() -> Settings {
+    let mut settings = Settings::new();
+    settings.protect.windows = true;
+    settings
+}
+
 /// Each setter answers what was there.
 fn are_settings_changed(alloc: Global) -> Result<bool, Fail> {
     let mut repo = empty_repository(alloc)?;
-    let mut strict = Settings::new();
-    strict.protect.windows = true;
-    Ok(
-        repo.set_settings(strict) == Settings::new()
-            && *repo.settings() == strict
-            && repo.object_hash() == HashKind::Sha1,
-    )
+    let before = repo.set_settings(strict());
+    let is_set = *repo.settings() == strict();
+    Ok(before == Settings::new() && is_set && repo.object_hash() == HashKind::Sha1)
 }
 
 fn answers(alloc: Global) -> Result<bool, Fail> {

@@ -15,8 +15,8 @@ use std::alloc::Global;
 
 /// Objects with their labels.
 #[derive(Drop)]
-struct History {
-    store: Memory,
+pub(crate) struct History {
+    pub(crate) store: Memory,
     labels: Vec<(Vec<u8>, ObjectId)>,
 }
 
@@ -114,31 +114,44 @@ fn parents_of(fields: &[Vec<u8>]) -> Parents {
 fn is_word(field: &[u8]) -> bool {
     matches!(
         field,
-        b"tips" | b"hide" | b"boundary" | b"shallow" | b"first"
+        b"tips" | b"hide" | b"boundary" | b"shallow" | b"first" | b"names" | b"fallback" | b"long"
     )
 }
 
+/// The fields between a word and the next one.
+pub(crate) fn fields_behind<'a>(
+    alloc: Global,
+    fields: &'a [Vec<u8>],
+    word: &[u8],
+) -> Result<Vec<&'a [u8]>, ProbeError> {
+    let mut found = Vec::new(alloc);
+    let mut is_behind = false;
+    for field in fields {
+        if is_word(field) {
+            is_behind = field.as_slice() == word;
+        } else if is_behind {
+            found.push(field.as_slice())?;
+        }
+    }
+    Ok(found)
+}
+
 /// The ids of the labels between a word and the next one.
-fn ids_behind(
+pub(crate) fn ids_behind(
     alloc: Global,
     history: &History,
     fields: &[Vec<u8>],
     word: &[u8],
 ) -> Result<Ids, ProbeError> {
     let mut ids = Vec::new(alloc);
-    let mut is_behind = false;
-    for field in fields {
-        if is_word(field) {
-            is_behind = field.as_slice() == word;
-        } else if is_behind {
-            ids.push(id_of(history, field))?;
-        }
+    for label in &fields_behind(alloc, fields, word)? {
+        ids.push(id_of(history, label))?;
     }
     Ok(Ids::from_vec(ids))
 }
 
 /// The id of a label; that of one which no field spells is not stored.
-fn id_of(history: &History, label: &[u8]) -> ObjectId {
+pub(crate) fn id_of(history: &History, label: &[u8]) -> ObjectId {
     for (known, id) in &history.labels {
         if known.as_slice() == label {
             return *id;
@@ -148,7 +161,7 @@ fn id_of(history: &History, label: &[u8]) -> ObjectId {
 }
 
 /// The objects that the fields before the first word spell.
-fn history_of(alloc: Global, fields: &[Vec<u8>]) -> Result<History, ProbeError> {
+pub(crate) fn history_of(alloc: Global, fields: &[Vec<u8>]) -> Result<History, ProbeError> {
     let mut history = History {
         store: Memory::new(alloc, HashKind::Sha1)?,
         labels: Vec::new(alloc),
@@ -208,7 +221,7 @@ fn commit_bytes(
     Ok(commit.to_bytes(alloc)?)
 }
 
-fn signature(alloc: Global, seconds: i64) -> Result<Signature, ProbeError> {
+pub(crate) fn signature(alloc: Global, seconds: i64) -> Result<Signature, ProbeError> {
     Ok(Signature {
         name: Bytes::from_slice(alloc, b"A")?,
         email: Bytes::from_slice(alloc, b"a@x")?,
@@ -223,10 +236,20 @@ fn push_item(
 ) -> Result<(), ProbeError> {
     match item {
         Ok(info) => push_label(answer, history, &info.id),
-        Err(WalkError::Missing { .. }) => push_word(answer, "missing"),
-        Err(WalkError::NotACommit { id }) => push_named(answer, history, "not-a-commit", &id),
-        Err(WalkError::Decode { id }) => push_named(answer, history, "decode", &id),
-        Err(_) => Err(ProbeError::NoMemory),
+        Err(error) => push_error(answer, history, &error),
+    }
+}
+
+pub(crate) fn push_error(
+    answer: &mut Vec<u8>,
+    history: &History,
+    error: &WalkError,
+) -> Result<(), ProbeError> {
+    match error {
+        WalkError::Missing { .. } => push_word(answer, "missing"),
+        WalkError::NotACommit { id } => push_named(answer, history, "not-a-commit", id),
+        WalkError::Decode { id } => push_named(answer, history, "decode", id),
+        _ => Err(ProbeError::NoMemory),
     }
 }
 
@@ -240,7 +263,11 @@ fn push_named(
     push_label(answer, history, id)
 }
 
-fn push_label(answer: &mut Vec<u8>, history: &History, id: &ObjectId) -> Result<(), ProbeError> {
+pub fn push_label(
+    answer: &mut Vec<u8>,
+    history: &History,
+    id: &ObjectId,
+) -> Result<(), ProbeError> {
     for (label, known) in &history.labels {
         if known == id {
             return push_field(answer, label);

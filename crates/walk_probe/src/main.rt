@@ -1,9 +1,14 @@
-//! What the library says of walks over histories, row by row. It reads rows from standard input, and prints them again
-//! with what the library answers.
+//! What the library says of walks over histories, merge bases, descriptions and traversals of trees, row by row.
+//! It reads rows from standard input, and prints them again with what the library answers.
 #![tactic(auto)]
 
+mod bases;
+mod descriptions;
 mod history;
+mod made;
+mod trees;
 
+use bases::Call;
 use probe_rows::{Answer, ProbeError, answer_rows};
 use std::alloc::Global;
 use std::io;
@@ -27,7 +32,12 @@ struct Walks;
 impl Answer for Walks {
     fn answer(&self, alloc: Global, call: &str, fields: &[Vec<u8>]) -> Result<Vec<u8>, ProbeError> {
         match call {
+            "describe" => descriptions::answer(alloc, fields),
+            "bases" => bases::answer(alloc, Call::Bases, fields),
+            "octopus" => bases::answer(alloc, Call::Octopus, fields),
             "walk" => history::answer(alloc, fields),
+            "made" => made::answer(alloc, fields),
+            "traverse" => trees::answer(alloc, fields),
             _ => Err(ProbeError::UnknownCall),
         }
     }

@@ -9,9 +9,9 @@ ghost use Rattle.gx_edit.specs.View.{WhereLoaded, names_of, is_null};
 use super::item::Item;
 use super::nodes::{Node, new_node};
 use crate::EditError;
-use crate::stored_tree::tree_at;
+use crate::stored_tree::read_tree;
 use gx_hash::{HashKind, NoMemory, ObjectId};
-use gx_object::{DecodeError, Entry, Tree, TreeRef};
+use gx_object::{Entry, Tree};
 use gx_store::Objects;
 use std::alloc::Global;
 
@@ -54,12 +54,8 @@ fn node_at<S: Objects>(
     ensures names { IfOk result (λ node. WhereLoaded (S.state store.now) (λ load. (place_of node).names ≡ load id)) }
     ensures refused { IfErr result (LoadCauses (S.state store.now) id) }
 {
-    let bytes = tree_at(alloc, store, id)?;
-    match TreeRef::from_bytes(alloc, bytes.as_slice(), hash) {
-        Ok(tree) => Ok(node_of(alloc, tree.to_owned()?)?),
-        Err(DecodeError::Decode { .. }) => Err(EditError::Decode { id }),
-        Err(DecodeError::NoMemory) => Err(EditError::NoMemory),
-    }
+    let tree = read_tree(alloc, store, hash, id)?;
+    Ok(node_of(alloc, tree)?)
 }
 
 fn stored_id(id: ObjectId) -> Option<ObjectId>

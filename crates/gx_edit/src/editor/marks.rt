@@ -18,7 +18,7 @@ fn mark_inner(inner: &BTreeMap<Vec<u8>, usize>, marks: &mut [bool])
     }
 }
 
-/// Marks the directories that the root leads to. Each stands behind the one that it is loaded in, so one pass does.
+/// Marks the directories that the root leads to. Each stands after the one that it is loaded in, so one pass does.
 pub(super) fn reached(alloc: Global, nodes: &[Node]) -> Result<Vec<bool>, NoMemory>
     requires { AreLinked (places_of nodes.now) }
     ensures { IfOk result (λ marks. TellsReached (places_of nodes.now) marks.items) }

@@ -1,4 +1,4 @@
-// Loaded directories. They stand in a list, each behind the one that it is loaded in, so that paths of any length
+// Loaded directories. They stand in a list, each after the one that it is loaded in, so that paths of any length
 // cost no stack, and memory in proportion to what is loaded.
 ghost use Rattle.std.specs.Prelude.{◌≡◌, ◌<◌, OnOk, OnErr, None, length, slice_get, option_map, if◌then◌else◌};
 ghost use Rattle.gx_edit.specs.Editor.{entry_of, entry_named};

@@ -2,12 +2,13 @@
 ghost use Rattle.std.specs.Prelude.{◌≡◌, ◌⊎◌, IsTrue, IfOk, IfErr, IfSome, Some};
 ghost use Rattle.gx_object.specs.declared.kind.Kind.TheVariants as object_kind;
 ghost use Rattle.gx_store.specs.Content.{lookup};
+ghost use Rattle.gx_edit.specs.StoredTree.{TellsEntries};
 ghost use Rattle.gx_edit.specs.OpenTree.{IsOpened, IsOneOf, LoadCauses, OpenCauses};
 
 use super::listing::entries_of;
 use crate::EditError;
-use gx_hash::{Bytes, ObjectId, object_id};
-use gx_object::{Entry, Kind};
+use gx_hash::{Bytes, HashKind, ObjectId, object_id};
+use gx_object::{DecodeError, Entry, Kind, Tree, TreeRef};
 use gx_store::{Objects, StoreError};
 use std::alloc::Global;
 
@@ -33,9 +34,7 @@ fn find_object<S: Objects>(
 {
     match store.read(alloc, &id) {
         Ok(Some(object)) => Ok(Some(object)),
-        Ok(None) if id == ObjectId::empty_tree(id.kind()) => {
-            Ok(Some((Kind::Tree, Bytes::new(alloc))))
-        }
+        Ok(None) if id.is_empty_tree() => Ok(Some((Kind::Tree, Bytes::new(alloc)))),
         Ok(None) => Ok(None),
         Err(StoreError::NoMemory) => Err(EditError::NoMemory),
         Err(StoreError::Fault { what }) => Err(EditError::Store { what }),
@@ -43,11 +42,7 @@ fn find_object<S: Objects>(
 }
 
 /// The bytes of the tree at an id.
-pub(crate) fn tree_at<S: Objects>(
-    alloc: Global,
-    store: &S,
-    id: ObjectId,
-) -> Result<Bytes, EditError>
+fn tree_at<S: Objects>(alloc: Global, store: &S, id: ObjectId) -> Result<Bytes, EditError>
     ensures found { IfOk result (λ bytes. IfSome (S.state store.now).content
         (λ content. lookup content id ≡ Some (object_kind.Tree, bytes))) }
     ensures refused { IfErr result (LoadCauses (S.state store.now) id) }
@@ -56,6 +51,25 @@ pub(crate) fn tree_at<S: Objects>(
         None => Err(EditError::FindExistingObject { id }),
         Some((Kind::Tree, bytes)) => Ok(bytes),
         Some((actual, _)) => Err(EditError::ObjectKind { id, actual }),
+    }
+}
+
+/// The tree at an id, as it is spelled.
+pub(crate) fn read_tree<S: Objects>(
+    alloc: Global,
+    store: &S,
+    hash: HashKind,
+    id: ObjectId,
+) -> Result<Tree, EditError>
+    requires kind { hash ≡ (S.state store.now).hash }
+    ensures found { IfOk result (λ tree. TellsEntries (S.state store.now) id tree.entries) }
+    ensures refused { IfErr result (LoadCauses (S.state store.now) id) }
+{
+    let bytes = tree_at(alloc, store, id)?;
+    match TreeRef::from_bytes(alloc, bytes.as_slice(), hash) {
+        Ok(tree) => Ok(tree.to_owned()?),
+        Err(DecodeError::Decode { .. }) => Err(EditError::Decode { id }),
+        Err(DecodeError::NoMemory) => Err(EditError::NoMemory),
     }
 }
 

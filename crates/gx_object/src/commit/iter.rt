@@ -145,10 +145,18 @@ impl<'a> Model for CommitRefIter<'a> {
     ghost use Rattle.gx_object.specs.CommitItems.{IsReached, given_at};
 
     ghost view = { λ it.
-        record { text = record { hash = it.hash; bytes = it.bytes.now }; given = given_at (next_of it.stage) it.given } };
+        record {
+          text = record { hash = it.hash; bytes = it.bytes.now };
+          given = given_at (next_of it.stage) it.given;
+        } };
 
     ghost invariant = { λ it.
-        IsReached (record { hash = it.hash; bytes = it.bytes.now; rest = it.rest.now; next = next_of it.stage }) it.given };
+        IsReached (record {
+          hash = it.hash;
+          bytes = it.bytes.now;
+          rest = it.rest.now;
+          next = next_of it.stage;
+        }) it.given };
 }
 
 impl<'a> CommitRefIter<'a> {

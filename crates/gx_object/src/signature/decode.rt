@@ -55,6 +55,15 @@ pub struct SignatureRef<'a> {
 }
 
 impl<'a> SignatureRef<'a> {
+    /// The parts of an identity's text, as a line of a log has it: all that is between the words around it. The time is
+    /// not read.
+    pub fn from_bytes(text: &'a [u8]) -> Option<SignatureRef<'a>>
+        ensures { MatchOption result ((who : IdentityText)
+            → ¬ SpellsIdentity text.now who) (λ who. SpellsIdentity text.now (identity_text who)) }
+    {
+        split_identity(text)
+    }
+
     /// The same without white space at the ends of the name and the email.
     pub fn trim(&self) -> SignatureRef<'a>
         ensures { identity_text result ≡ trimmed (identity_text self.now) }

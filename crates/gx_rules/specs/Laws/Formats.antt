@@ -38,7 +38,7 @@ begins_back [] rest = refl
 begins_back (t ∷ text) rest = and_from _ _ (eq-eqb t t refl) (begins_back text rest)
 
 -- a text at a place splits the name into what is before it, the text, and what is after it
-stands_parts : (t : ℕ) (text name : List ℕ) (at : ℕ) → StandsAt (t ∷ text) name at → (front : List ℕ) × (rest : List ℕ) × (name ≡ front ++ ((t ∷ text) ++ rest)) × (length front ≡ at)
+pub stands_parts : (t : ℕ) (text name : List ℕ) (at : ℕ) → StandsAt (t ∷ text) name at → (front : List ℕ) × (rest : List ℕ) × (name ≡ front ++ ((t ∷ text) ++ rest)) × (length front ≡ at)
 stands_parts t text name at h =
     let rest : List ℕ = drop (length (t ∷ text)) (drop at name) in
     let behind : drop at name ≡ (t ∷ text) ++ rest = begins_parts (t ∷ text) (drop at name) h in
@@ -47,7 +47,7 @@ stands_parts t text name at h =
     (take at name, rest, sym (take-append-drop at name) ∙ ap (λ (xs : List ℕ). take at name ++ xs) behind, length-take-le at name within)
 
 -- and back, at any place in what is after
-stands_place : (front more text : List ℕ) (at k : ℕ) → at ≡ length front + k → StandsAt text more k → StandsAt text (front ++ more) at
+pub stands_place : (front more text : List ℕ) (at k : ℕ) → at ≡ length front + k → StandsAt text more k → StandsAt text (front ++ more) at
 stands_place front more text at k e h = rw e (ap (λ (xs : List ℕ). starts_with nat_eq xs text) (drop-append-add front more k) ∙ h)
 
 stands_behind : (front more text : List ℕ) (at k : ℕ) → at ≡ length front + k → StandsAt text (front ++ more) at → StandsAt text more k
@@ -74,7 +74,7 @@ abbrev HeadHas : (List ℕ → Type 0) → Path → Type 0
 HeadHas P [] = Unit {0}
 HeadHas P (name ∷ path) = P name
 
-all_none : (P : List ℕ → Type 0) → All P []
+pub all_none : (P : List ℕ → Type 0) → All P []
 all_none P k d within = absurd (omega (arith, within))
 
 all_tail : (P : List ℕ → Type 0) (path : Path) → All P path → All P (tail path)

@@ -1,6 +1,7 @@
 -- The components of a text, up to its first slash and after it.
-use Rattle.std.proofs.Common.{◌≡◌, ℕ, suc, Bool, true, false, ◌+◌, ◌<◌, ◌≤◌, cond, List, [], ◌∷◌, drop, take, length, Option, Some, None, refl, ap, ◌∙◌, arith, ◌==◌, add-one, one-add, not, nat_lt, MatchOption, ltb-true, ltb-false}
-use Rattle.std.specs.List.{position, position_or_len}
+use Rattle.std.proofs.Common.{◌≡◌, ℕ, suc, Bool, true, false, ◌+◌, ◌<◌, ◌≤◌, cond, List, [], ◌∷◌, drop, take, length, ◌++◌, Option, Some, None, refl, ap, ◌∙◌, arith, ◌==◌, add-one, one-add, not, nat_lt, MatchOption, ltb-true, ltb-false}
+use Rattle.std.specs.List.{position, position_or_len, join_with_byte, slice_split, onto_first}
+use Rattle.std.proofs.lemmas.List.Splits.{join_with_byte-slice_split}
 use Rattle.gx_rules.specs.Path.{Path, components, at_front}
 
 abbrev pub is_slash : ℕ → Bool
@@ -43,3 +44,32 @@ components_some (b ∷ bs) e = go (b == 47) (components bs) e
     go true p e = cc
     go false [] e = cc
     go false (n ∷ p) e = cc
+
+-- the recursion is that of `split`
+at_front_is : (b : ℕ) (path : Path) → at_front b path ≡ onto_first b path
+at_front_is b [] = refl
+at_front_is b (name ∷ path) = refl
+
+pub components_split : (bytes : List ℕ) → components bytes ≡ slice_split is_slash bytes
+components_split [] = refl
+components_split (b ∷ bytes) = go (b == 47) (components_split bytes)
+  where
+    go : (t : Bool) → components bytes ≡ slice_split is_slash bytes → cond t ([] ∷ components bytes) (at_front b (components bytes)) ≡ cond t ([] ∷ slice_split is_slash bytes) (onto_first b (slice_split is_slash bytes))
+    go true ih = ap (λ (path : Path). [] ∷ path) ih
+    go false ih = ap (at_front b) ih ∙ at_front_is b (slice_split is_slash bytes)
+
+pub components_joined : (bytes : List ℕ) → join_with_byte 47 (components bytes) ≡ bytes
+components_joined bytes = ap (join_with_byte 47) (components_split bytes) ∙ join_with_byte-slice_split 47 bytes
+
+front_more : (b : ℕ) (path more : Path) → (path ≡ [] → ⊥) → at_front b (path ++ more) ≡ at_front b path ++ more
+front_more b [] more some = absurd (some refl)
+front_more b (name ∷ path) more some = refl
+
+-- the components of two texts with a slash between them
+pub components_of_two : (one two : List ℕ) → components (one ++ (47 ∷ two)) ≡ components one ++ components two
+components_of_two [] two = refl
+components_of_two (b ∷ one) two = go (b == 47) (components_of_two one two)
+  where
+    go : (t : Bool) → components (one ++ (47 ∷ two)) ≡ components one ++ components two → cond t ([] ∷ components (one ++ (47 ∷ two))) (at_front b (components (one ++ (47 ∷ two)))) ≡ cond t ([] ∷ components one) (at_front b (components one)) ++ components two
+    go true ih = ap (λ (path : Path). [] ∷ path) ih
+    go false ih = ap (at_front b) ih ∙ front_more b (components one) (components two) (components_some one)

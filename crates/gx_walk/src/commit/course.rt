@@ -1,6 +1,8 @@
 //! The steps of a walk.
 
 ghost use Rattle.std.specs.Prelude.{◌≡◌, true, false, ◌++◌, IfOk, IfErr, OnOk, OnErr, IfSome, IfNone};
+ghost use Rattle.gx_hash.specs.declared.oid.ObjectId.{ObjectId};
+ghost use Rattle.gx_hash.specs.ObjectIds.{has_id};
 ghost use Rattle.gx_walk.specs.Causes.{CommitCauses};
 ghost use Rattle.gx_walk.specs.History.{Told};
 ghost use Rattle.gx_walk.specs.Simple.{Asks, IsHidden, IsNamed, IsNextInfo, IsWhole, time_told};
@@ -10,9 +12,8 @@ ghost use Rattle.gx_walk.specs.Course.{found_id, IfAt, IfUnderWay, IsAt, IsFresh
 use crate::commit::frontier::{Frontier, Sets, mention_all};
 use crate::commit::reach::{follow, reached};
 use crate::commit::read::read_commit;
-use crate::id_set::IdSet;
-use crate::{Filter, Info, Sorting, WalkError, WalkOptions};
-use gx_hash::ObjectId;
+use crate::{Filter, Graph, Info, Sorting, WalkError, WalkOptions};
+use gx_hash::{NoMemory, ObjectId, ObjectIds};
 use gx_object::Ids;
 use gx_store::Objects;
 use std::alloc::Global;
@@ -44,6 +45,17 @@ impl Course {
     }
 }
 
+/// The set of these ids.
+pub(crate) fn set_of(alloc: Global, ids: &[ObjectId]) -> Result<ObjectIds, NoMemory>
+    ensures { IfOk result (λ set. (one : ObjectId) → has_id set one ≡ has_id ids.now one) }
+{
+    let mut set = ObjectIds::new(alloc);
+    for id in ids {
+        set.insert(*id)?;
+    }
+    Ok(set)
+}
+
 /// Begins a walk, unless it has begun: makes its sets, and finds what the hidden ids reach.
 fn begin<S: Objects>(
     alloc: Global,
@@ -62,15 +74,18 @@ fn begin<S: Objects>(
     if course.begun {
         return Ok(());
     }
-    course.sets.shallow = IdSet::from_ids(alloc, options.shallow.as_slice())?;
-    course.sets.boundary = IdSet::from_ids(alloc, options.boundary.as_slice())?;
-    course.sets.hidden = reached(
+    course.sets.shallow = set_of(alloc, options.shallow.as_slice())?;
+    course.sets.boundary = set_of(alloc, options.boundary.as_slice())?;
+    let mut graph = Graph::new(alloc);
+    let hidden = reached(
         alloc,
         store,
+        &mut graph,
         options.parents,
         &course.sets.shallow,
         options.hidden.as_slice(),
     )?;
+    course.sets.hidden = hidden.set;
     course.pending = options.tips.try_clone()?;
     course.begun = true;
     Ok(())

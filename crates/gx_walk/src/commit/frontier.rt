@@ -10,9 +10,8 @@ ghost use Rattle.gx_walk.specs.Frontier.{is_excluded, Enqueues, IsAdmittedOf, Is
 
 use crate::commit::read::read_commit;
 use crate::commit::sorting::{is_in_time, rank};
-use crate::id_set::IdSet;
 use crate::{Filter, Sorting, WalkError};
-use gx_hash::{NoMemory, ObjectId};
+use gx_hash::{NoMemory, ObjectId, ObjectIds};
 use gx_store::Objects;
 use std::alloc::Global;
 use std::collections::BTreeMap;
@@ -20,18 +19,18 @@ use std::collections::BTreeMap;
 /// The sets that a walk looks ids up in.
 #[derive(Drop)]
 pub(crate) struct Sets {
-    pub(crate) shallow: IdSet,
-    pub(crate) boundary: IdSet,
+    pub(crate) shallow: ObjectIds,
+    pub(crate) boundary: ObjectIds,
     /// All that the hidden ids reach.
-    pub(crate) hidden: IdSet,
+    pub(crate) hidden: ObjectIds,
 }
 
 impl Sets {
     pub(crate) fn new(alloc: Global) -> Sets {
         Sets {
-            shallow: IdSet::new(alloc),
-            boundary: IdSet::new(alloc),
-            hidden: IdSet::new(alloc),
+            shallow: ObjectIds::new(alloc),
+            boundary: ObjectIds::new(alloc),
+            hidden: ObjectIds::new(alloc),
         }
     }
 
@@ -48,7 +47,7 @@ impl Sets {
 pub(crate) struct Frontier {
     pub(crate) queue: BTreeMap<(i64, u64), ObjectId>,
     /// What was mentioned and not excluded: the filter was asked about it.
-    pub(crate) seen: IdSet,
+    pub(crate) seen: ObjectIds,
     /// The ids that the filter was asked about, in order, with its answers.
     pub(crate) asked: Vec<(ObjectId, bool)>,
     /// How many mentions there were.
@@ -61,7 +60,7 @@ impl Frontier {
     {
         Frontier {
             queue: BTreeMap::new(alloc),
-            seen: IdSet::new(alloc),
+            seen: ObjectIds::new(alloc),
             asked: Vec::new(alloc),
             count: 0,
         }

@@ -4,4 +4,4 @@ use Rattle.gix.proofs.plan.plan_objects.Goals as goal
 pub returns-in_err-edited-clause-err : goal.returns-in_err-edited-clause-err
 returns-in_err-edited-clause-err g c =
     let p = err_from_is_err_and c.from_residual.result c.from_residual.ensures.1 in
-    rw (p.1, p.2) (c.in_err-edited.ensures.err c.args.settings)
+    rw (p.1, p.2) (c.in_err-edited.ensures.err c.args.settings.now)

@@ -1,15 +1,9 @@
-use Rattle.std.proofs.Common.{refl}
-use Rattle.gx_tool.specs.Serving.{HasModuleIds}
-use Rattle.gx_tool.proofs.MachineLemmas.{unsupported}
+use Rattle.gx_tool.proofs.CallLemmas.{replied, stopped}
+use Rattle.gx_tool.proofs.FormLemmas.{lawful}
 use Rattle.gx_tool.proofs.executing.execute.Goals as goal
 
-pub commit-requires : goal.commit-requires
-unfolding HasModuleIds
-commit-requires g c = rw c.in-Commit.is at c.requires
-
-pub returns-in_default : goal.returns-in_default
-returns-in_default g c = record {
-  reply = unsupported _ _ _ c.in_default.not-Commit;
-  stops = tt;
-  settings = refl;
+pub returns : goal.returns
+returns g c = record {
+  reply = replied c.args.request.now (lawful c.call_laws.ensures c.args.request.now) _ _ c.call.result c.call.ensures;
+  stops = stopped c.args.request.now _ _ c.call.result c.call.ensures;
 }

@@ -1,10 +1,10 @@
 use Rattle.std.proofs.Common.{◌≡◌, ◌∙◌, true, false, [], ◌∷◌, ◌++◌, refl, sym, ap, subst}
-use Rattle.gx_walk.specs.Ids.{has_id}
+use Rattle.gx_hash.specs.ObjectIds.{has_id}
 use Rattle.gx_walk.proofs.AskedLemmas.{Answers, asked_same, asked_more, asks_same, asks_one, not_new}
 use Rattle.gx_walk.proofs.commit.frontier.ask.Goals as goal
 
 pub returns-in_err-insert-clause-asked : goal.returns-in_err-insert-clause-asked
-returns-in_err-insert-clause-asked g c = asked_same c.args.frontier.now _ c.requires.asked refl (λ q h. subst (λ w. has_id w q ≡ true) (sym c.in_err-insert.ensures.err) h)
+returns-in_err-insert-clause-asked g c = asked_same c.args.frontier.now _ c.requires.asked refl (λ q h. subst (λ w. has_id w q ≡ true) (sym c.in_err-insert.ensures.leaves) h)
 
 pub returns-in_err-reserve-clause-asks : goal.returns-in_err-reserve-clause-asks
 returns-in_err-reserve-clause-asks g c = asks_same g.F.Filter.admit_gives _ _ c.args.filter.now c.requires.asked.once c.reserve.ensures.items

@@ -1,0 +1,3 @@
+//! Objects of a repository.
+
+pub mod tree;
