@@ -3,7 +3,8 @@
     bases.py PROBE SCRATCH [SEED]
 
 The histories are those of walks.py. Git leaves the order of bases of one time open, so its list is sorted: the newest
-first, of equal times the lower id. The last line says how many comparisons passed and failed.
+first, of equal times the lower id. `git merge-base --octopus` follows all bases of each step, and so says the same as a fold
+of first bases where each step has exactly one. The last line says how many comparisons passed and failed.
 """
 
 import random
@@ -25,27 +26,34 @@ class Bases:
         self.names = {id: label for label, id in self.ids.items()}
         self.times = {label: time for label, time, _ in commits}
 
+    def ask(self, options, labels, shallow):
+        """What `git merge-base` lists, as labels. The shallow commits have no parents for it."""
+        place = f"{self.repository.path}/shallow-commits"
+        with open(place, "w") as file:
+            file.writelines(f"{self.ids[label]}\n" for label in shallow)
+        words = ["git", "--git-dir", self.repository.path, "--shallow-file", place, "merge-base", *options]
+        done = subprocess.run([*words, *(self.ids[label] for label in labels)], capture_output=True, text=True)
+        if done.returncode > 1:
+            sys.exit(done.stderr)
+        return [self.names[id] for id in done.stdout.split()]
+
     def all(self, one, others, shallow):
         """Labels in the order of merge bases. One commit alone is its own base."""
         if not others or one in others:
             return [one]
-        place = f"{self.repository.path}/shallow-commits"
-        with open(place, "w") as file:
-            file.writelines(f"{self.ids[label]}\n" for label in shallow)
-        words = ["git", "--git-dir", self.repository.path, "--shallow-file", place, "merge-base", "--all"]
-        words += [self.ids[label] for label in [one, *others]]
-        done = subprocess.run(words, capture_output=True, text=True)
-        if done.returncode > 1:
-            sys.exit(done.stderr)
-        return sorted((self.names[id] for id in done.stdout.split()), key=lambda label: (-self.times[label], self.ids[label]))
+        bases = self.ask(["--all"], [one, *others], shallow)
+        return sorted(bases, key=lambda label: (-self.times[label], self.ids[label]))
 
     def octopus(self, one, others, shallow):
+        """The base that is left after the last of the commits, and whether each of them left exactly one."""
+        is_one = True
         for other in others:
             bases = self.all(one, [other], shallow)
             if not bases:
-                return []
+                return [], is_one
+            is_one = is_one and len(bases) == 1
             one = bases[0]
-        return [one]
+        return [one], is_one
 
 
 def row(call, commits, tips, shallow):
@@ -65,7 +73,10 @@ def cases(rng, repository):
         shallow = some(labels, rng) if rng.random() < 0.3 else []
         one, *others = tips
         yield row("bases", commits, tips, shallow), bases.all(one, others, shallow)
-        yield row("octopus", commits, tips, shallow), bases.octopus(one, others, shallow)
+        folded, is_one = bases.octopus(one, others, shallow)
+        yield row("octopus", commits, tips, shallow), folded
+        if is_one:
+            yield row("octopus", commits, tips, shallow), bases.ask(["--octopus"], tips, shallow)
 
 
 def main():

@@ -95,7 +95,7 @@ informs --version
 informs -h
 informs --help
 cp -- "$scratch/printed" "$usage"
-explains --memory --memory-sha256 FOLDER sha256:FOLDER apply --help --version
+explains --memory --memory-sha256 FOLDER sha256:FOLDER apply generate --help --version
 explains status 0 1 2 3 4 5 6 7 8 9
 
 rejects "no words" 6 "$usage"
@@ -103,7 +103,13 @@ rejects "a store alone" 6 "$usage" --memory
 rejects "a store of SHA-256 alone" 6 "$usage" --memory-sha256
 rejects "an unknown word" 6 "$usage" --memory forget
 rejects "a word in other letters" 6 "$usage" --memory Apply
-rejects "a word with a number" 6 "$usage" --memory generate 5
+rejects "apply with a number" 6 "$usage" --memory apply 5
+rejects "generate without a number" 6 "$usage" --memory generate
+rejects "generate with two numbers" 6 "$usage" --memory generate 1 2
+for number in "" 20001 4294967296 18446744073709551616 00 01 +1 -1 1.0 0x1 " 1" "1 " one; do
+    rejects "generate '$number'" 6 "$usage" --memory generate "$number"
+done
+rejects "a folder with a number too many" 6 "$usage" "$scratch/absent" generate 20001
 rejects "--help after a store" 6 "$usage" --memory --help
 rejects "a word too many" 6 "$usage" --memory apply again
 rejects "a word that is not UTF-8" 6 "$usage" $'\xff' apply

@@ -13,9 +13,9 @@ entry() {
     printf '100644 blob %s\t%s\n' "$(git hash-object -w --stdin)" "$1"
 }
 
-# The ids in the replies that are ok.
+# The ids of commits in the replies that are ok.
 ids_of() {
-    "$top/gx" --memory apply <"$top/examples/$1.script" | sed -n 's/^ok //p'
+    "$top/gx" --memory apply <"$top/examples/$1.script" | sed -n -E 's/^ok ([0-9a-f]{40})$/\1/p'
 }
 
 # agrees EXAMPLE IDS: the example makes these commits alone, one id a line.
@@ -112,5 +112,6 @@ agrees first-commit "$(first_commit)"
 agrees several-files "$(several_files)"
 agrees history "$(history)"
 agrees refusals "$(two_commits)"
+agrees references "$(two_commits)"
 
 report

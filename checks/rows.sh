@@ -8,10 +8,10 @@ set -uo pipefail
 answer() {
     case ${1##*/} in
     chains.rows | directories.rows | editors.rows | edits.rows | logs.rows | path_maps.rows | references.rows | runs.rows | \
-        store.rows)
+        store.rows | tree_editors.rows)
         store_probe <"$1"
         ;;
-    bases.rows | describe.rows | traversals.rows | walks.rows)
+    bases.rows | describe.rows | maps.rows | traversals.rows | walks.rows)
         walk_probe <"$1"
         ;;
     script-*)

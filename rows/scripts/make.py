@@ -49,8 +49,39 @@ def refused(reply, edits=(), reference="HEAD", parents="", **roles):
 
 
 def logged(name, *moves):
-    """A request for a log, in which each line tells of a move from one commit to another, with a message."""
+    """A request for a log, in which each line tells of a move from one commit to another, with a message, and by whom where
+    that is not the committer of the second."""
     return {"log": name, "moves": moves}
+
+
+def listed(prefix, **there):
+    """A request for the references that begin with a prefix, or for all under `refs/`, where these are there, each at a
+    commit, or symbolic where that begins with `@`. A `_` in a name stands for a slash, but in such as `ORIG_HEAD`. `HEAD`
+    leads to the main branch if it is not said to be elsewhere, or to be absent."""
+    names = {name if name.isupper() else "refs/" + name.replace("_", "/"): at for name, at in there.items()}
+    return {"prefix": prefix, "there": {"HEAD": "@" + MAIN, **names}}
+
+
+def relative(prefix):
+    """A request for references whose prefix is no relative path."""
+    return {"text": f"refs {prefix}\n", "replies": ["no relative-path"]}
+
+
+def answered(text, name, reply):
+    """A request for an edit of a reference, and `ok`, which has the name then, or what it is refused for."""
+    return {"text": text, "replies": [f"ok {name}" if reply == "ok" else "no " + reply]}
+
+
+def setting(name, target, expect, reply="ok", message="", by=()):
+    """A request for a reference to be set, signed by A or by another, or by nobody where that is None."""
+    who = {**BY_A, **dict(by or ())}
+    line = "" if by is None else f"committer {who['seconds']} {who['offset']} {who['name']}\t{who['email']}\n"
+    return answered(f"ref {name} {target} {expect}\n{line}message {len(message)}\n{message}\nend\n", name, reply)
+
+
+def deleting(name, expect, reply="ok"):
+    """A request for a reference to be deleted."""
+    return answered(f"delete {name} {expect}\n", name, reply)
 
 
 FIRST = commit("first", MAIN, [put("hello", "hello world")])
@@ -58,6 +89,10 @@ SECOND = commit("second", MAIN, [put("d/x")], "ok", "first", "c2\n")
 BEGIN = commit("begin", "HEAD", [put("a.b", "hello world"), put("a/x", "x\n")])
 EMPTY = commit("empty", "refs/heads/a", [], "ok", "", "c2\n")
 MODULE = {"word": "module", "path": "m", "commit": "first"}
+NEXT = commit("next", MAIN, [put("d/x")], "ok", "first", "c2\n")
+B = {"seconds": 7, "offset": -12630, "name": "\u00d8 B", "email": ""}
+A_NAME, AN_EMAIL, AN_OFFSET = {"name": "A<"}, {"email": "a>"}, {"offset": 360000}
+NEW, NONE, ALIAS = "refs/heads/new", "refs/heads/none", "refs/heads/alias"
 
 SCRIPTS = {
     "empty": [],
@@ -131,13 +166,111 @@ SCRIPTS = {
              logged("HEAD", ("first", "next", "commit: two words")),
              commit("tagged", "refs/tags/v", [], message="c4\n"), logged("refs/tags/v"),
              refused("must-not-exist refs/tags/v {tagged}", reference="refs/tags/v"), logged("refs/heads/none")],
+    "refs": [listed(None), listed(""), FIRST, commit("topic", "refs/heads/topic", [put("d/x")], "ok", "first"),
+             commit("part", "refs/heads/topic-2/a", [], message="c4\n"), commit("tagged", "refs/tags/v", []),
+             *[listed(prefix, heads_main="first", heads_topic="topic", **{"heads_topic-2_a": "part"}, tags_v="tagged")
+               for prefix in (None, "", "refs/heads/", "refs/heads/topic", "refs/heads/topic-2/a", "refs/tags/", "refs/remotes/",
+                              "H", "main", "refs", "refs//", "refs/..x", "...", "refs/heads/topic/")],
+             *[relative(prefix) for prefix in ("/", "/refs/", ".", "..", "../refs/", "refs/../heads/", "refs/heads/.",
+                                               "./refs/", "refs/heads/..")]],
+    "set": [FIRST, NEXT, unasked(EMPTY),
+            setting("refs/heads/a/b", "{first}", "absent"),
+            setting("refs/heads/a/b", "{first}", "absent", "must-not-exist refs/heads/a/b {first}"),
+            setting("refs/heads/a/b", "{next}", "absent", "must-not-exist refs/heads/a/b {first}"),
+            setting("refs/heads/a", "{first}", "any", "conflict refs/heads/a refs/heads/a/b"),
+            setting("refs/heads/a/b/c", "{first}", "absent", "conflict refs/heads/a/b/c refs/heads/a/b"),
+            setting("refs/heads/a/b/c", "@" + MAIN, "?{first}", "conflict refs/heads/a/b/c refs/heads/a/b"),
+            logged("refs/heads/a/b", (None, "first", "")),
+            setting(NEW, "{first}", "exists", "must-exist " + NEW), setting(NEW, "{first}", "={first}", "must-exist " + NEW),
+            setting(NEW, "@" + MAIN, "=@" + MAIN, "must-exist " + NEW), logged(NEW),
+            setting(NEW, "{first}", "any", message="made"), setting(NEW, "{next}", "any", message="two\nlines", by=B.items()),
+            setting(NEW, "{first}", "exists", message="back"),
+            setting(NEW, "{next}", "={next}", f"out-of-date {NEW} {{next}} {{first}}"),
+            setting(NEW, "{first}", "=@" + MAIN, f"out-of-date {NEW} @{MAIN} {{first}}"),
+            setting(NEW, "{next}", "={first}", message="on"),
+            setting(NEW, "{first}", "?{first}", f"out-of-date {NEW} {{first}} {{next}}"),
+            setting(NEW, "{first}", "?@" + MAIN, f"out-of-date {NEW} @{MAIN} {{next}}"),
+            setting(NEW, "{next}", "?{next}", message="same"),
+            logged(NEW, (None, "first", "made"), ("first", "next", "two lines", B), ("next", "first", "back"),
+                   ("first", "next", "on"), ("next", "next", "same")),
+            setting("refs/heads/other", "{first}", "?{next}", message="other"),
+            setting("refs/heads/unstored", "{empty}", "absent"), setting("refs/heads/blob", "{hello}", "any"),
+            deleting("refs/heads/blob", "any"), logged("refs/heads/other", (None, "first", "other")),
+            listed(None, heads_main="next", heads_a_b="first", heads_new="next", heads_other="first", heads_unstored="empty")],
+    "signed": [FIRST, setting(NEW, "{first}", "any", "no-committer", by=None),
+               setting(NEW, "{first}", "any", "unwritable committer-name", by=A_NAME.items()),
+               setting(NEW, "{first}", "any", "unwritable committer-email", by=AN_EMAIL.items()),
+               setting(NEW, "{first}", "any", "unwritable committer-offset", by=AN_OFFSET.items()),
+               setting("HEAD", "{first}", "any", "no-committer", by=None),
+               *[setting(f"refs/{name}/x", "{first}", "absent", "no-committer", by=None) for name in ("remotes", "notes")],
+               setting("refs/tags/v", "{first}", "absent", by=None),
+               setting("refs/tags/w", "{first}", "absent", by=A_NAME.items()),
+               setting("refs/tags/signed", "{first}", "absent", message="m"), logged("refs/tags/v"), logged("refs/tags/signed"),
+               setting("refs/heads/link", "@" + MAIN, "absent", by=None),
+               setting("refs/heads/link", "@refs/heads/x", "exists", message="m", by=A_NAME.items()), logged("refs/heads/link"),
+               setting("refs/notes/x", "{first}", "absent", message="noted"), logged("refs/notes/x", (None, "first", "noted")),
+               setting("ORIG_HEAD", "{first}", "absent", by=None), logged("ORIG_HEAD"),
+               listed("", ORIG_HEAD="first", heads_main="first", heads_link="@refs/heads/x", notes_x="first",
+                      tags_v="first", tags_w="first", tags_signed="first")],
+    "symbolic": [FIRST, NEXT, setting(ALIAS, "@" + MAIN, "absent", message="led"),
+                 setting(ALIAS, "{first}", "absent", f"must-not-exist {ALIAS} @{MAIN}"),
+                 setting(ALIAS, "@refs/heads/x", "={next}", f"out-of-date {ALIAS} {{next}} @{MAIN}"),
+                 setting(ALIAS, "@refs/heads/x", "?@refs/heads/x", f"out-of-date {ALIAS} @refs/heads/x @{MAIN}"),
+                 setting(ALIAS, "@refs/heads/x", "=@" + MAIN), listed("refs/heads/a", heads_alias="@refs/heads/x"),
+                 setting(ALIAS, "@" + MAIN, "?@refs/heads/x"), setting("refs/heads/link", "@" + MAIN, "any"), logged(ALIAS),
+                 commit("third", ALIAS, [put("y")], "ok", "next", "c3\n"),
+                 logged(ALIAS, ("next", "third", "commit: c3")),
+                 logged(MAIN, (None, "first", "commit (initial): c1"), ("first", "next", "commit: c2"),
+                        ("next", "third", "commit: c3")),
+                 listed("", heads_alias="@" + MAIN, heads_link="@" + MAIN, heads_main="third"),
+                 setting(ALIAS, "{first}", "=@" + MAIN, message="apart"),
+                 logged(ALIAS, ("next", "third", "commit: c3"), (None, "first", "apart")),
+                 deleting("refs/heads/link", "={third}", f"out-of-date refs/heads/link {{third}} @{MAIN}"),
+                 deleting("refs/heads/link", "=@" + MAIN),
+                 logged(MAIN, (None, "first", "commit (initial): c1"), ("first", "next", "commit: c2"),
+                        ("next", "third", "commit: c3")),
+                 listed("", heads_alias="first", heads_main="third"),
+                 setting("HEAD", "{third}", "=@" + MAIN, message="detached"), logged("HEAD", (None, "third", "detached")),
+                 listed("H", HEAD="third"), deleting("HEAD", "={third}"), logged("HEAD"), listed("H", HEAD=None),
+                 setting("HEAD", "@refs/heads/x", "absent"), listed("H", HEAD="@refs/heads/x")],
+    "chains": [setting("refs/heads/c1", "@refs/heads/c2", "absent"), setting("refs/heads/c2", "@refs/heads/c1", "absent"),
+               setting("refs/heads/self", "@refs/heads/self", "any"),
+               refused("cycle refs/heads/c1", reference="refs/heads/c1"),
+               refused("cycle refs/heads/self", reference="refs/heads/self"),
+               *[setting(f"refs/heads/d{at}", f"@refs/heads/d{at + 1}", "?@refs/heads/none") for at in range(1, 7)],
+               refused("depth refs/heads/d1", reference="refs/heads/d1"), commit("deep", "refs/heads/d2", []),
+               logged("refs/heads/d7", (None, "deep", "commit (initial): c1")),
+               logged("refs/heads/d2", (None, "deep", "commit (initial): c1")), logged("refs/heads/d1"),
+               setting("refs/heads/d1", "@refs/heads/d7", "=@refs/heads/d2"), deleting("refs/heads/d3", "exists"),
+               logged("refs/heads/d3"), logged("refs/heads/d7", (None, "deep", "commit (initial): c1")),
+               setting("refs/heads/c2", "{deep}", "=@refs/heads/c1"), deleting("refs/heads/self", "=@refs/heads/self"),
+               listed(None, heads_c1="@refs/heads/c2", heads_c2="deep", heads_d1="@refs/heads/d7", heads_d2="@refs/heads/d3",
+                      heads_d4="@refs/heads/d5", heads_d5="@refs/heads/d6", heads_d6="@refs/heads/d7", heads_d7="deep")],
+    "delete": [FIRST, NEXT, setting("refs/heads/a/b", "{first}", "absent"),
+               *[deleting(NONE, expect) for expect in ("any", "absent", "?{first}", "?@" + MAIN)],
+               *[deleting(NONE, expect, "must-exist " + NONE) for expect in ("exists", "={first}", "=@" + MAIN)],
+               deleting(MAIN, "absent", f"must-not-exist {MAIN} {{next}}"),
+               deleting(MAIN, "={first}", f"out-of-date {MAIN} {{first}} {{next}}"),
+               deleting(MAIN, "?{first}", f"out-of-date {MAIN} {{first}} {{next}}"),
+               deleting(MAIN, "=@" + MAIN, f"out-of-date {MAIN} @{MAIN} {{next}}"),
+               deleting("refs/heads/main/x", "any"), deleting("refs/heads/a", "?{first}"),
+               listed(None, heads_main="next", heads_a_b="first"),
+               setting("refs/heads/a", "{first}", "any", "conflict refs/heads/a refs/heads/a/b"),
+               deleting("refs/heads/a/b", "={first}"), logged("refs/heads/a/b"), listed(None, heads_main="next"),
+               setting("refs/heads/a", "{first}", "any", message="room"), logged("refs/heads/a", (None, "first", "room")),
+               deleting("refs/heads/a", "?{first}"), deleting("refs/heads/a", "exists", "must-exist refs/heads/a"),
+               deleting(MAIN, "exists"), logged(MAIN), deleting(MAIN, "any"), listed("", HEAD="@" + MAIN),
+               setting(MAIN, "{next}", "absent", message="again"), logged(MAIN, (None, "next", "again")),
+               listed(None, heads_main="next")],
+    "bad-name": [FIRST, bad("ref refs/heads/.a {first} any\n", "malformed 10")],
+    "bad-target": [FIRST, bad("ref refs/heads/a @refs/heads/a. any\n", "malformed 10")],
+    "bad-expect": [FIRST, deleting(MAIN, "={first}"), bad(f"delete {MAIN} {{first}}\n", "malformed 11")],
     "unsupported": [FIRST, {"text": """identity 1 0 A\ta@x
 tag v1 {first} commit\ntagger 1 0 A\ta@x\nmessage 2\nv1\nend
-ref refs/heads/new {first} absent\ncommitter 1 0 A\ta@x\nmessage 2\nr1\nend
-delete refs/heads/main any\nrefs\nrefs refs/heads/\npaths {first}\nwalk newest {first}
+paths {first}\nwalk newest {first}
 bases {first} {first}\noctopus {first} {first}\ndescribe all-refs 10 {first}
 note-set review {first} 2\nn1\nnote-drop review {first}\nnote-get {first}\nhead\nnamespace a/b\n""",
-                            "replies": ["unsupported"] * 16}, SECOND],
+                            "replies": ["no unsupported"] * 12}, SECOND],
     "cut": [bad(ON_HEAD + "message 10\nc2\n", "truncated 6")],
     "cut-behind": [FIRST, bad(ON_HEAD + "message 10\nc2\n", "truncated 15")],
     "between": [FIRST, bad("\n" + ON_HEAD + "message 3\nc2\n\nend\n", "malformed 10")],
@@ -186,28 +319,60 @@ class Maker:
         self.committers[request["as"]] = request["committer"]
         return made
 
-    def log_of(self, moves):
-        """The lines of a log, as `git update-ref` writes them."""
+    def line_of(self, old, new, message, who):
+        """The line of a log, as `git update-ref` writes it. That writes none where the id stays, so such a line is made of
+        the one for a new reference; and it leaves out the tab before a message without bytes."""
         self.logs += 1
-        name = f"refs/heads/log-{self.logs}"
-        if moves[0][0]:
-            self.repository.git("update-ref", name, self.ids[moves[0][0]])
-        for old, new, message in moves:
-            who = self.committers[new]
-            env = {"GIT_COMMITTER_NAME": who["name"], "GIT_COMMITTER_EMAIL": who["email"],
-                   "GIT_COMMITTER_DATE": f"@{who['seconds']} {zone(who['offset'])}"}
-            self.repository.git("update-ref", "--create-reflog", "-m", message, name, self.ids[new],
-                                self.ids[old] if old else self.repository.null_id().decode(), env=env.items())
+        name, null = f"refs/heads/log-{self.logs}", self.repository.null_id().decode()
+        begin = null if old in (None, new) else self.ids[old]
+        if begin != null:
+            self.repository.git("update-ref", name, begin)
+        env = {"GIT_COMMITTER_NAME": who["name"], "GIT_COMMITTER_EMAIL": who["email"],
+               "GIT_COMMITTER_DATE": f"@{who['seconds']} {zone(who['offset'])}"}
+        words = ["-m", message] if message else []
+        self.repository.git("update-ref", "--create-reflog", *words, name, self.ids[new], begin, env=env.items())
         with open(os.path.join(self.repository.folder, "logs", name), encoding="utf-8") as file:
-            return file.read().splitlines()
+            line = file.read().splitlines()[-1]
+        line = self.ids[new] + line[len(null):] if old == new else line
+        return line if message else line.rstrip("\t") + "\t"
+
+    def log_of(self, moves):
+        """The lines of a log."""
+        return [self.line_of(old, new, message, by[0] if by else self.committers[new]) for old, new, message, *by in moves]
+
+    def listing(self, prefix, there):
+        """The references that begin with a prefix, as `git for-each-ref` lists those under `refs/` at a commit, and as
+        `git symbolic-ref` and `git rev-parse` tell the others."""
+        git = self.repository.git
+        leading = {name: at[1:] for name, at in there.items() if at and at[0] == "@"}
+        direct = {name: self.ids[at] for name, at in there.items() if at and at[0] != "@"}
+        for name, commit_at in direct.items():
+            git("update-ref", "--no-deref", name, commit_at)
+        listed_names = [name for name in direct if name.startswith("refs/")]
+        lines = git("for-each-ref", "--format=ref %(refname) %(objectname)", *listed_names).decode().splitlines() \
+            if listed_names else []
+        lines += [f"ref {name} " + git("rev-parse", name).decode() for name in direct if name not in listed_names]
+        for name in set(direct) - {"HEAD"}:
+            git("update-ref", "--no-deref", "-d", name)
+        for name, target in leading.items():
+            git("symbolic-ref", name, target)
+            lines.append(f"ref {name} @" + git("symbolic-ref", "--no-recurse", name).decode())
+        for name in set(leading) - {"HEAD"}:
+            git("symbolic-ref", "--delete", name)
+        git("symbolic-ref", "HEAD", MAIN)
+        return sorted(line for line in lines if line[4:].startswith(prefix))
 
     def request(self, request):
         """The text of a request, and its replies."""
+        if "there" in request:
+            prefix = request["prefix"]
+            lines = self.listing("refs/" if prefix is None else prefix, request["there"])
+            return ("refs\n" if prefix is None else f"refs {prefix}\n").encode(), lines + [f"ok {len(lines)}"]
         if "log" in request:
             lines = ["log " + line for line in self.log_of(request["moves"])] if request["moves"] else []
             return f"log {request['log']}\n".encode(), lines + [f"ok {len(lines)}" if lines else "ok none"]
         if "text" in request:
-            return request["text"].format(**self.ids).encode(), ["no " + reply for reply in request["replies"]]
+            return request["text"].format(**self.ids).encode(), [reply.format(**self.ids) for reply in request["replies"]]
         parents = [self.ids[parent].encode() for parent in request["parents"]]
         edits = [self.edit(edit) for edit in request["edits"]]
         if request["reply"] in ("ok", None):

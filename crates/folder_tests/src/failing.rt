@@ -6,21 +6,50 @@ use std::fs::{File, Metadata, OpenOptions};
 use std::io::{self, ErrorKind};
 use std::rt::Files;
 
+/// Counts calls of files between `start` and `stop`, of which one fails.
+#[derive(Drop)]
+pub(crate) struct Calls {
+    made: Cell<u64>,
+    has_failed: Cell<bool>,
+    /// Which call fails, counted from 1.
+    nth: u64,
+}
+
+impl Calls {
+    pub(crate) fn new(nth: u64) -> Calls {
+        Calls {
+            made: Cell::new(u64::MAX),
+            has_failed: Cell::new(false),
+            nth,
+        }
+    }
+
+    pub(crate) fn start(&self) {
+        self.made.set(0);
+    }
+
+    pub(crate) fn stop(&self) {
+        self.made.set(u64::MAX);
+    }
+
+    pub(crate) fn has_failed(&self) -> bool {
+        self.has_failed.get()
+    }
+}
+
 /// The system's files, of whose calls one fails.
 #[derive(Clone, Drop)]
 pub(crate) struct Failing<'a> {
     pub(crate) host: HostRuntime,
-    /// How many calls were made.
-    pub(crate) calls: &'a Cell<u64>,
-    /// Which call fails, counted from 1.
-    pub(crate) nth: u64,
+    pub(crate) calls: &'a Calls,
 }
 
 impl Failing<'_> {
     fn count(&self) -> io::Result<()> {
-        let made = self.calls.get().saturating_add(1);
-        self.calls.set(made);
-        if made == self.nth {
+        let made = self.calls.made.get().saturating_add(1);
+        self.calls.made.set(made);
+        if made == self.calls.nth {
+            self.calls.has_failed.set(true);
             return Err(ErrorKind::StorageFull.into());
         }
         Ok(())

@@ -2,11 +2,23 @@
 ghost use Rattle.std.specs.Prelude.{IfOk};
 ghost use Rattle.gx_store.specs.Kinds.{IsLineOfKind};
 
+use gx_folder::Folder;
 use gx_hash::{Bytes, HashKind, NoMemory, ObjectId};
 use gx_object::{Signature, Time};
 use gx_rules::FullName;
 use gx_store::{LogAct, LogLine, RefChange, Store, StoreError, Target, TargetChange};
 use std::alloc::Global;
+use std::test::Fail;
+
+/// A new store in a folder.
+pub(crate) fn create(
+    rt: &HostRuntime,
+    path: &str,
+    hash: HashKind,
+) -> Result<Folder<HostRuntime>, Fail> {
+    let store = Folder::create(rt.clone()?, path, hash)?;
+    Ok(store)
+}
 
 pub(crate) fn name_of(alloc: Global, bytes: &[u8]) -> Result<FullName, NoMemory> {
     match FullName::new(alloc, bytes) {
@@ -92,6 +104,27 @@ pub(crate) fn replace<S: Store>(
     store.apply(alloc, &changes)
 }
 
+fn has_target<S: Store>(
+    alloc: Global,
+    store: &S,
+    name: &FullName,
+    to: &[u8],
+) -> Result<bool, StoreError> {
+    let wanted = Target::Symbolic(name_of(alloc, to)?);
+    let found = store.find(alloc, name)?;
+    Ok(found == Some(wanted))
+}
+
+fn has_lines<S: Store>(
+    alloc: Global,
+    store: &S,
+    name: &FullName,
+    count: usize,
+) -> Result<bool, StoreError> {
+    let lines = store.log(alloc, name)?;
+    Ok(lines.is_some_and(|lines| lines.as_slice().len() == count))
+}
+
 /// Whether a reference is symbolic to another, and its log has so many lines.
 pub(crate) fn leads<S: Store>(
     alloc: Global,
@@ -99,12 +132,13 @@ pub(crate) fn leads<S: Store>(
     name: &[u8],
     to: &[u8],
     count: usize,
-) -> Result<bool, StoreError> {
-    let name = name_of(alloc, name)?;
-    let wanted = Target::Symbolic(name_of(alloc, to)?);
-    let is_there = store.find(alloc, &name)? == Some(wanted);
-    let lines = store.log(alloc, &name)?;
-    Ok(is_there && lines.is_some_and(|lines| lines.as_slice().len() == count))
+) -> bool {
+    let Ok(name) = name_of(alloc, name) else {
+        return false;
+    };
+    let is_there = has_target(alloc, store, &name, to).unwrap_or(false);
+    let is_logged = has_lines(alloc, store, &name, count).unwrap_or(false);
+    is_there && is_logged
 }
 
 /// Whether there is neither a reference nor a log of the name.

@@ -14,7 +14,7 @@ use Rattle.gix.specs.Meaning.{Means, Stays, IsLawful}
 use Rattle.gix.specs.View.{View, view_of, whole}
 
 stays_same : (old new : StoreState) → new ≡ old → Stays old new
-stays_same old new same = subst (λ n. Stays old n) (sym same) (record { parts = refl; later = omega arith })
+stays_same old new same = subst (λ n. Stays old n) (sym same) (record { kind = refl; parts = refl; later = omega arith })
 
 no_fault : {A E : Type 0} (q : Query A E) (settings : Settings) (old : StoreState) (e : E) (fault : What) (failure : Option StoreError) → ((part : What) → old.unreadable part ≡ false) → failure ≡ Some (Fault fault) → CauseBy q settings old e failure → ⊥
 no_fault q settings old e fault None readable is h = cc
@@ -34,7 +34,7 @@ told_whole P hash None references h = tt
 told_whole P hash (Some content) None h = tt
 told_whole P hash (Some content) (Some references) h = (refl, h)
 
-told_still : (P : View → Type 0) (store : StoreState) → P (view_of store) → WhereTold (λ o n. (n ≡ o) × P (whole o)) store store
+pub told_still : (P : View → Type 0) (store : StoreState) → P (view_of store) → WhereTold (λ o n. (n ≡ o) × P (whole o)) store store
 told_still P store h = told_whole P store.hash store.content store.references h
 
 why_of : {A E : Type 0} (q : Query A E) (settings : Settings) (old : StoreState) (e : E) (failure : Option StoreError) → failure ≡ None → CauseBy q settings old e failure → q.why settings (view_of old) e
@@ -62,6 +62,11 @@ asking_means q held (Err e) is why = record {
   accepts = tt;
   refuses = λ none. told_still (λ view. q.why held.settings view e) held.store (why_of q held.settings held.store e (q.fails e) none why);
 }
+
+-- two facts of an answer
+pub both_ok : {A E : Type 0} (P Q : A → Type 0) (outcome : Result A E) → IfOk outcome P → IfOk outcome Q → IfOk outcome (λ answer. P answer × Q answer)
+both_ok P Q (Ok answer) p q = (p, q)
+both_ok P Q (Err e) p q = tt
 
 -- a fault at the one part that is read is its cause
 fault_by : (P : What → Type 0) (part fault : What) (old : StoreState) → P part → IsUnreadable old part fault → IsTrue (old.unreadable fault) × P fault

@@ -2,10 +2,13 @@ mod AskingLemmas
 mod BaseLemmas
 mod CommitLemmas
 mod EditLemmas
+mod EditingLemmas
+mod FoundLemmas
 mod Growth
 mod HistoryLemmas
 mod Lists
 mod MachineLemmas
+mod MadeCommitLemmas
 mod MadeLemmas
 mod NewMaps
 mod NoCauseLemmas

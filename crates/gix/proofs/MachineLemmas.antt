@@ -165,12 +165,12 @@ cause_rises : (e : CommitEditsError) (settings : Settings) (r : CommitRequest) (
 cause_rises (error.Store of) settings r old new fault readable is c = fault_rises of settings r old new readable c
 cause_rises e settings r old new fault readable is c = cc
 
-stays_becoming : (old wanted new : StoreState) → wanted.unreadable ≡ old.unreadable → wanted.faults ≡ old.faults → Becomes wanted new → Stays old new
-stays_becoming old wanted new parts faults b = record { parts = ap (λ (s : StoreState). s.unreadable) b.same ∙ parts; later = omega (arith, b.later, faults) }
+stays_becoming : (old wanted new : StoreState) → wanted.hash ≡ old.hash → wanted.unreadable ≡ old.unreadable → wanted.faults ≡ old.faults → Becomes wanted new → Stays old new
+stays_becoming old wanted new kind parts faults b = record { kind = ap (λ (s : StoreState). s.hash) b.same ∙ kind; parts = ap (λ (s : StoreState). s.unreadable) b.same ∙ parts; later = omega (arith, b.later, faults) }
 
 pub commit_lawful : (r : CommitRequest) → IsLawful (commit_edits_meaning r)
 commit_lawful r = record {
   same = λ settings old new e none left. told_same e settings r old new none left;
-  stays = λ settings old new id made. stays_becoming old _ new refl refl made.becomes;
+  stays = λ settings old new id made. stays_becoming old _ new refl refl refl made.becomes;
   rises = λ settings old new e fault readable is c. cause_rises e settings r old new fault readable is c;
 }

@@ -4,6 +4,8 @@ pub mod Base
 pub mod Causes
 pub mod CommitEdits
 pub mod CommitRequest
+pub mod EditReferences
+pub mod Found
 pub mod Held
 pub mod History
 pub mod LawsBelow
@@ -11,9 +13,12 @@ pub mod Lifting
 pub mod Log
 pub mod Logs
 pub mod Machine
+pub mod MadeCommit
 pub mod Meaning
 pub mod Reference
+pub mod References
 pub mod Repository
+pub mod Space
 pub mod Stages
 pub mod TreeEditor
 pub mod Trees

@@ -40,8 +40,9 @@ pub record Means {Made Error : Type 0} (m : Meaning Made Error) (old : Held) (ou
   pub refuses : IfErr outcome (λ e. m.fails e ≡ None
       → WhereTold (λ before after. m.refuses old.settings before e after) old.store new.store)
 
--- what stays of a store: which parts can't be read, and its count of faults does not fall
+-- what stays of a store: the kind of its ids, and which parts can't be read; and its count of faults does not fall
 pub record Stays (old new : StoreState) : Type 0 where
+  pub kind : new.hash ≡ old.hash
   pub parts : new.unreadable ≡ old.unreadable
   pub later : old.faults ≤ new.faults
 

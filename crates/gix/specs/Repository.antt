@@ -8,7 +8,7 @@ use Rattle.gix.specs.Held.{Held}
 abbrev pub store_of : {S : Type 0} → Repository S → S
 store_of repository = repository.store
 
--- the settings that it was opened with
+-- its settings
 abbrev pub settings_of : {S : Type 0} → Repository S → Settings
 settings_of repository = repository.settings
 

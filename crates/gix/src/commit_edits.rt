@@ -4,6 +4,7 @@ ghost use Rattle.std.specs.Prelude.{◌≡◌, [], IfOk, IfErr};
 ghost use Rattle.gix.specs.CommitRequest.{asked, HaveModuleIds};
 ghost use Rattle.gix.specs.CommitEdits.{Commits, Leaves};
 ghost use Rattle.gix.specs.Causes.{CommitEditsCauses};
+ghost use Rattle.gix.specs.MadeCommit.{IsCommitOver};
 
 use crate::plan::plan_commit;
 use crate::request::Request;
@@ -19,9 +20,17 @@ use std::alloc::Global;
 /// The parents of a commit that begins a history.
 pub const NO_PARENT_IDS: [ObjectId; 0] = [];
 
+/// A commit that was made: its id, and that of its tree.
+#[derive(Clone, Copy)]
+pub struct MadeCommit {
+    pub id: ObjectId,
+    pub tree: ObjectId,
+}
+
 impl<S: Store> Repository<S> {
     ghost use Rattle.gix.specs.CommitRequest.{request_of, HaveModuleIds};
     ghost use Rattle.gix.specs.Machine.{commit_edits_meaning};
+    ghost use Rattle.gix.specs.MadeCommit.{IsCommitOver, made_id};
     ghost use Rattle.gix.specs.Meaning.{Means};
     ghost use Rattle.gix.specs.Repository.{held_by};
 
@@ -55,6 +64,31 @@ impl<S: Store> Repository<S> {
             (request_of committer.now author.now reference.now message.now parents.now edits.now))
             (held_by S.state self.old) result (held_by S.state self.new) }
     {
+        match self.make_commit(alloc, committer, author, reference, message, parents, edits) {
+            Ok(made) => Ok(made.id),
+            Err(refusal) => Err(refusal),
+        }
+    }
+
+    /// The same as `commit_edits`, and tells the tree of the commit too.
+    pub fn make_commit(
+        &mut self,
+        alloc: Global,
+        committer: &Signature,
+        author: &Signature,
+        reference: &FullName,
+        message: &[u8],
+        parents: &[ObjectId],
+        edits: &[PathEdit],
+    ) -> Result<MadeCommit, CommitEditsError>
+        requires { HaveModuleIds edits.now }
+        ensures means { Means
+            (commit_edits_meaning
+            (request_of committer.now author.now reference.now message.now parents.now edits.now))
+            (held_by S.state self.old) (made_id result) (held_by S.state self.new) }
+        ensures tree { IfOk result (IsCommitOver (held_by S.state self.old).store.hash
+            (request_of committer.now author.now reference.now message.now parents.now edits.now)) }
+    {
         let request = Request {
             committer,
             author,
@@ -74,10 +108,11 @@ fn commit_request<S: Store>(
     store: &mut S,
     settings: &Settings,
     request: &Request<'_>,
-) -> Result<ObjectId, CommitEditsError>
+) -> Result<MadeCommit, CommitEditsError>
     requires { HaveModuleIds (asked request.now).edits }
-    ensures ok { IfOk result (λ id.
-        Commits settings.now (asked request.now) (S.state store.old) id (S.state store.new)) }
+    ensures ok { IfOk result (λ made.
+        Commits settings.now (asked request.now) (S.state store.old) made.id (S.state store.new)) }
+    ensures tree { IfOk result (IsCommitOver (S.state store.old).hash (asked request.now)) }
     ensures leaves { IfErr result (Leaves settings.now (asked request.now) (S.state store.old) (S.state store.new)) }
     ensures causes { IfErr result
         (CommitEditsCauses settings.now (asked request.now) (S.state store.old) (S.state store.new)) }
@@ -85,5 +120,8 @@ fn commit_request<S: Store>(
     let plan = plan_commit(alloc, store, settings, request)?;
     write_new(alloc, store, request, &plan.objects)?;
     store.apply(alloc, &plan.changes)?;
-    Ok(plan.objects.id)
+    Ok(MadeCommit {
+        id: plan.objects.id,
+        tree: plan.objects.trees.root(),
+    })
 }

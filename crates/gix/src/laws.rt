@@ -1,6 +1,6 @@
 //! What the definitions of commits say of one another, for proofs. The functions do nothing.
 
-ghost use Rattle.std.specs.Prelude.{◌≡◌, ℕ, List, ◌∷◌, Option, Some, Result, Ok, IfOk, IfErr, Contains};
+ghost use Rattle.std.specs.Prelude.{◌≡◌, ℕ, List, ◌∷◌, Option, Some, Result, Ok, IfOk, IfErr, Contains, codes, true};
 ghost use Rattle.gx_hash.specs.HashKind.{kind_of};
 ghost use Rattle.gx_hash.specs.declared.oid.ObjectId.{ObjectId};
 ghost use Rattle.gx_store.specs.State.{StoreState};
@@ -10,6 +10,10 @@ ghost use Rattle.gix.specs.declared.error.CommitEditsError.{CommitEditsError};
 ghost use Rattle.gix.specs.declared.error.CommitEditsError.TheVariants.{NoMemory as no_memory};
 ghost use Rattle.gix.specs.CommitEdits.{Commits, Leaves};
 ghost use Rattle.gix.specs.CommitRequest.{CommitRequest};
+ghost use Rattle.gx_object.specs.declared.signature.Signature.{Signature};
+ghost use Rattle.gx_refs.specs.EditCauses.{MayBeMade};
+ghost use Rattle.gx_refs.specs.declared.edit.RefEdit.{RefEdit};
+ghost use Rattle.gix.specs.EditReferences.{edit_references_meaning, terms_in};
 ghost use Rattle.gix.specs.View.{State, whole, view_of};
 ghost use Rattle.gix.specs.Base.{IsMapOf};
 ghost use Rattle.gix.specs.Trees.{Makes};
@@ -21,6 +25,7 @@ ghost use Rattle.gix.specs.Held.{WhereTold};
 ghost use Rattle.gix.specs.Logs.{log_query};
 ghost use Rattle.gix.specs.Machine.{Accepts, commit_edits_meaning};
 ghost use Rattle.gix.specs.Meaning.{IsLawful, Admits};
+ghost use Rattle.gix.specs.References.{is_relative_path, references_query};
 ghost use Rattle.gix.specs.LawsBelow.{LawsBelow};
 ghost use Rattle.gix.specs.History.{Call, CallStep, History, IsEmpty, IsLine, IsWholeId, line_map};
 
@@ -144,4 +149,29 @@ pub fn valid_commit_is_not_refused()
 /// To read a log is lawful.
 pub fn log_is_lawful()
     ensures { (name : List ℕ) → IsLawful (asks (log_query name)) }
+{}
+
+/// To list references is lawful.
+pub fn references_is_lawful()
+    ensures { (prefix : List ℕ) → IsLawful (asks (references_query prefix)) }
+{}
+
+/// To edit references is lawful.
+pub fn edit_references_is_lawful()
+    ensures { (committer : Option Signature) (edits : List RefEdit)
+        → IsLawful (edit_references_meaning committer edits) }
+{}
+
+/// Edits of references that may be made are not refused by the repository machine.
+pub fn edits_that_may_be_made_are_not_refused()
+    ensures { (committer : Option Signature) (edits : List RefEdit)
+        → Admits (edit_references_meaning committer edits)
+        (λ settings state. MayBeMade (terms_in settings committer) (Some state.references) edits) }
+{
+    gx_refs::laws::edits_that_may_be_made_are_not_refused();
+}
+
+/// The prefix of all references but such as `HEAD` is a relative path.
+pub fn refs_is_a_relative_path()
+    ensures { is_relative_path (codes "refs/") ≡ true }
 {}

@@ -1,4 +1,4 @@
-//! The repository: commits of edits over any store.
+//! The repository: commits of edits, edits of trees, listings of references and logs, over any store.
 //!
 //! A call is answered in one of two ways. Either all was done, and the clause for Ok says what the store then
 //! means; or an error tells why not, and what was left behind. Whatever an error leaves, the call lets no
@@ -15,15 +15,17 @@ mod error;
 pub mod laws;
 mod log;
 mod logs;
+mod moving;
 pub mod object;
 mod plan;
-mod reference;
+pub mod reference;
 mod repository;
 mod request;
 mod settings;
+mod space;
 mod write;
 
-pub use commit_edits::NO_PARENT_IDS;
+pub use commit_edits::{MadeCommit, NO_PARENT_IDS};
 pub use error::CommitEditsError;
 pub use gx_edit::PathEdit;
 pub use repository::Repository;

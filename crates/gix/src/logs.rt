@@ -1,6 +1,7 @@
 //! Logs of references, which are read.
 
 use crate::Repository;
+use crate::space::{namespace_of, stored_name};
 use gx_rules::FullName;
 use gx_store::{Lines, Store, StoreError};
 use std::alloc::Global;
@@ -18,6 +19,7 @@ impl<S: Store> Repository<S> {
     pub fn log(&self, alloc: Global, name: &FullName) -> Result<Option<Lines>, StoreError>
         ensures { Means (asks (log_query name.now)) (held_by S.state self.now) result (held_by S.state self.now) }
     {
-        self.store.log(alloc, name)
+        let stored = stored_name(namespace_of(&self.settings), name)?;
+        self.store.log(alloc, &stored)
     }
 }

@@ -13,7 +13,7 @@ use crate::base::base_of;
 use crate::edits::{Edited, make_edits};
 use crate::error::lifted;
 use crate::log::commit_log_message;
-use crate::reference::movable_chain;
+use crate::moving::movable_chain;
 use crate::request::Request;
 use crate::{CommitEditsError, Settings};
 use gx_edit::Output;

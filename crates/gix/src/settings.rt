@@ -1,11 +1,11 @@
-//! What is chosen when a repository is opened.
+//! How a repository is used.
 
 ghost use Rattle.std.specs.Prelude.{◌≡◌, false, true};
 
 use gx_refs::WriteReflog;
 use gx_rules::Protect;
 
-/// How a repository is used.
+/// What is chosen for a repository.
 #[derive(Debug, PartialEq, Eq, Drop)]
 pub struct Settings {
     /// Which names a tree may not have.

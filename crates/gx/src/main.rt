@@ -1,4 +1,5 @@
-//! The program: a script of requests from standard input, applied to a store; a reply for each on standard output.
+//! The program: a script of requests from standard input, applied to a store, with a reply for each on standard output;
+//! or commits of the generator.
 #![tactic(auto)]
 
 ghost use Rattle.std.specs.Prelude.{◌≡◌, ◌⊎◌, ◌↔◌, codes, Some, IsTrue, MatchResult};
@@ -16,9 +17,11 @@ use std::{env, mem};
 
 /// What `--help` prints, and standard error hears of a faulty command line.
 const USAGE: &str = "usage: gx STORE apply < SCRIPT
+       gx STORE generate NUMBER
 
 Applies a script of requests from standard input to a repository, and writes a
-reply for each to standard output. STORE says where the repository is:
+reply for each to standard output; or makes commits of its own there, and writes
+how many, the last one's tree and its id. STORE says where the repository is:
 
   --memory         in memory, empty, with SHA-1 ids
   --memory-sha256  the same, with SHA-256 ids
@@ -27,11 +30,14 @@ reply for each to standard output. STORE says where the repository is:
   sha256:FOLDER    the same, with SHA-256 ids
 
   apply            applies the script
+  generate NUMBER  makes so many commits of a small file each, at most 20000,
+                   the same at every run
   -h, --help       prints this text
   --version        prints the version
 
-status  0  each request of the script got an `ok`
-        1  all requests of the script were replied to, one or more with `no`
+status  0  each request of the script got an `ok`, or all commits were made
+        1  all requests of the script were replied to, one or more with `no`; or
+           a commit was refused
         2  the script is malformed after the requests that were replied to:
            `script_probe sha1 < SCRIPT` names the line
         3  reading the script failed

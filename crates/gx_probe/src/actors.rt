@@ -8,7 +8,7 @@ use gx_actor::{
 use gx_hash::{Bytes, NoMemory};
 use gx_object::Time;
 use probe_rows::ProbeError;
-use probe_rows::answers::{push_field, push_shown, word};
+use probe_rows::answers::{push_field, push_shown, shown, word};
 use std::alloc::Global;
 
 /// The moment that rows give.
@@ -53,8 +53,9 @@ fn answer_date(alloc: Global, fields: &[Vec<u8>]) -> Result<Vec<u8>, ProbeError>
 }
 
 fn shown_time(alloc: Global, time: Time) -> Result<Vec<u8>, ProbeError> {
-    let Time { seconds, offset } = time;
-    Ok(format!(in alloc; "{seconds} {offset}")?.into_bytes())
+    let mut answer = shown(alloc, &time.seconds)?;
+    push_shown(alloc, &mut answer, &time.offset)?;
+    Ok(answer)
 }
 
 fn committer(alloc: Global, personas: &Personas) -> Result<Vec<u8>, ProbeError> {

@@ -35,3 +35,9 @@ pub fn split_fields(
         .split_at_checked(count)
         .ok_or(ProbeError::UnknownCall)
 }
+
+/// What stands before the first such byte, and what stands after it.
+pub fn split_once(bytes: &[u8], end: u8) -> Option<(&[u8], &[u8])> {
+    let at = bytes.iter().position(|byte| *byte == end)?;
+    Some((&bytes[..at], &bytes[at + 1..]))
+}

@@ -3,7 +3,7 @@
 use gx_hash::{Bytes, HashKind, HexError, ObjectId, object_id};
 use probe_rows::ProbeError;
 use probe_rows::answers::{
-    at, hash_of, hex, id_of, numbered, order, push_id, quoted, shown, truth, word,
+    at, hash_of, hex, id_of, numbered, order, push_id, push_shown, quoted, shown, truth, word,
 };
 use std::alloc::Global;
 
@@ -112,8 +112,9 @@ fn answer_of_kind(alloc: Global, call: &str, hash: HashKind) -> Result<Vec<u8>, 
 }
 
 fn lengths(alloc: Global, hash: HashKind) -> Result<Vec<u8>, ProbeError> {
-    let (bytes, digits) = (hash.len_in_bytes(), hash.len_in_hex());
-    Ok(format!(in alloc; "{bytes} {digits}")?.into_bytes())
+    let mut answer = shown(alloc, &hash.len_in_bytes())?;
+    push_shown(alloc, &mut answer, &hash.len_in_hex())?;
+    Ok(answer)
 }
 
 fn answer_of_id(alloc: Global, call: &str, id: &ObjectId) -> Result<Vec<u8>, ProbeError> {

@@ -1,8 +1,10 @@
 //! Mailmaps that are asked about many identities.
 
 use crate::actors::{merge, resolved};
+use crate::fields::split_once;
 use gx_actor::Snapshot;
 use probe_rows::ProbeError;
+use probe_rows::answers::size_of;
 use std::alloc::Global;
 
 /// Reads the size of a mailmap in decimal and a newline, the mailmap, and lines `Name <email>`. Each of these is
@@ -29,11 +31,9 @@ fn push_all(output: &mut Vec<u8>, snapshot: &Snapshot, lines: &[u8]) -> Result<(
 
 /// The mailmap, and the lines that follow it.
 fn split_input(input: &[u8]) -> Option<(&[u8], &[u8])> {
-    let end = input.iter().position(|byte| *byte == b'\n')?;
-    let (size, rest) = input.split_at_checked(end)?;
-    let size = str::from_utf8(size).ok()?.parse().ok()?;
-    let (_, after) = rest.split_first()?;
-    after.split_at_checked(size)
+    let (digits, rest) = split_once(input, b'\n')?;
+    let size = size_of(digits)?;
+    rest.split_at_checked(size)
 }
 
 fn push_resolved(output: &mut Vec<u8>, snapshot: &Snapshot, line: &[u8]) -> Result<(), ProbeError> {
@@ -51,8 +51,7 @@ fn push_resolved(output: &mut Vec<u8>, snapshot: &Snapshot, line: &[u8]) -> Resu
 
 /// The name and the email of a line `Name <email>`.
 fn split_identity(line: &[u8]) -> Option<(&[u8], &[u8])> {
-    let open = line.iter().position(|byte| *byte == b'<')?;
-    let (name, rest) = line.split_at_checked(open)?;
-    let email = rest.strip_prefix(b"<")?.strip_suffix(b">")?;
+    let (name, rest) = split_once(line, b'<')?;
+    let email = rest.strip_suffix(b">")?;
     Some((name.strip_suffix(b" ").unwrap_or(name), email))
 }

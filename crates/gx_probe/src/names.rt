@@ -27,10 +27,13 @@ fn push_verdicts(alloc: Global, verdicts: &mut Vec<u8>, names: &[u8]) -> Result<
 /// Each full name is a partial one too, so the stronger verdict is given.
 fn verdict(alloc: Global, name: &[u8]) -> Result<&'static [u8], NoMemory> {
     match FullName::new(alloc, name) {
-        Ok(_) => return Ok(b"full\n"),
-        Err(NameError::NoMemory) => return Err(NoMemory),
-        Err(_) => {}
+        Ok(_) => Ok(b"full\n"),
+        Err(NameError::NoMemory) => Err(NoMemory),
+        Err(_) => weaker_verdict(alloc, name),
     }
+}
+
+fn weaker_verdict(alloc: Global, name: &[u8]) -> Result<&'static [u8], NoMemory> {
     match PartialName::new(alloc, name) {
         Ok(_) => Ok(b"partial\n"),
         Err(NameError::NoMemory) => Err(NoMemory),
@@ -158,9 +161,19 @@ fn namespace_copy(alloc: Global, name: &PartialName) -> Result<Vec<u8>, ProbeErr
 /// What a namespace makes of a name.
 fn answer_in(alloc: Global, call: &str, space: &[u8], name: &[u8]) -> Result<Vec<u8>, ProbeError> {
     match (PartialName::new(alloc, space), FullName::new(alloc, name)) {
-        (Ok(space), Ok(name)) => name_in(alloc, call, &expand_namespace(alloc, &space)?, &name),
+        (Ok(space), Ok(name)) => name_under(alloc, call, &space, &name),
         _ => word(alloc, "no names"),
     }
+}
+
+fn name_under(
+    alloc: Global,
+    call: &str,
+    space: &PartialName,
+    name: &FullName,
+) -> Result<Vec<u8>, ProbeError> {
+    let space = expand_namespace(alloc, space)?;
+    name_in(alloc, call, &space, name)
 }
 
 fn name_in(

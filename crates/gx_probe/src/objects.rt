@@ -6,7 +6,9 @@ use gx_object::{
     TreeRefIter, WriteTo,
 };
 use probe_rows::ProbeError;
-use probe_rows::answers::{numbered, push_field, push_id, push_word, quoted, word};
+use probe_rows::answers::{
+    numbered, push_field, push_id, push_shown, push_word, quoted, shown, word,
+};
 use std::alloc::Global;
 
 /// The tree that the bytes spell, as it is written.
@@ -52,7 +54,13 @@ pub fn count_entries(alloc: Global, bytes: &[u8], hash: HashKind) -> Result<Vec<
         entry?;
         count = count.saturating_add(1);
     }
-    Ok(format!(in alloc; "{count}\n")?.into_bytes())
+    on_a_line(alloc, count)
+}
+
+fn on_a_line(alloc: Global, count: u64) -> Result<Vec<u8>, ProbeError> {
+    let mut line = shown(alloc, &count)?;
+    line.push(b'\n')?;
+    Ok(line)
 }
 
 /// The bytes of an object, or the first field that can't be written.
@@ -188,14 +196,7 @@ impl Cuts {
     }
 
     fn flush(&mut self) -> Result<(), ProbeError> {
-        let count = self.count;
-        let text = match self.place {
-            _ if count == 0 => return Ok(()),
-            None if count == 1 => format!(in self.alloc; "ok")?,
-            None => format!(in self.alloc; "ok*{count}")?,
-            Some(place) => format!(in self.alloc; "{place}*{count}")?,
-        };
-        push_word(&mut self.answer, text.as_str())
+        push_outcome(self.alloc, &mut self.answer, self.place, self.count)
     }
 
     pub fn into_answer(self) -> Result<Vec<u8>, ProbeError> {
@@ -203,4 +204,46 @@ impl Cuts {
         cuts.flush()?;
         Ok(cuts.answer)
     }
+}
+
+/// Appends where so many cuts go wrong, if they do.
+fn push_outcome(
+    alloc: Global,
+    answer: &mut Vec<u8>,
+    place: Option<usize>,
+    count: u64,
+) -> Result<(), ProbeError> {
+    match place {
+        _ if count == 0 => Ok(()),
+        None if count == 1 => push_word(answer, "ok"),
+        None => push_times(alloc, answer, "ok", count),
+        Some(place) => push_places(alloc, answer, place, count),
+    }
+}
+
+fn push_places(
+    alloc: Global,
+    answer: &mut Vec<u8>,
+    place: usize,
+    count: u64,
+) -> Result<(), ProbeError> {
+    push_shown(alloc, answer, &place)?;
+    push_star(alloc, answer, count)
+}
+
+fn push_times(
+    alloc: Global,
+    answer: &mut Vec<u8>,
+    text: &str,
+    count: u64,
+) -> Result<(), ProbeError> {
+    push_word(answer, text)?;
+    push_star(alloc, answer, count)
+}
+
+/// Appends a star and the number.
+fn push_star(alloc: Global, answer: &mut Vec<u8>, count: u64) -> Result<(), ProbeError> {
+    let digits = shown(alloc, &count)?;
+    answer.push(b'*')?;
+    Ok(answer.extend_from_slice(&digits)?)
 }

@@ -1,3 +1,4 @@
+use crate::fields::split_once;
 use gx_edit::{PathMap, read_map, write_plain};
 use gx_hash::{HashKind, NoMemory, ObjectId};
 use gx_object::EntryKind;
@@ -49,24 +50,28 @@ fn put_line(map: &mut PathMap, line: &[u8], hash: HashKind) -> Result<(), ProbeE
     if line.is_empty() {
         return Ok(());
     }
-    let Some((head, path)) = split_once(line, b'\t') else {
-        return Err(ProbeError::BadLine);
-    };
-    let Some((mode, digits)) = split_once(head, b' ') else {
-        return Err(ProbeError::BadLine);
-    };
-    let (Some(kind), Ok(id)) = (kind_of(mode), ObjectId::from_hex(digits)) else {
-        return Err(ProbeError::BadLine);
-    };
-    if id.kind() != hash || id.is_null() || matches!(kind, EntryKind::Tree) {
+    match leaf_in(line, hash) {
+        Some((kind, id, path)) => put(map, path, kind, id),
+        None => Err(ProbeError::BadLine),
+    }
+}
+
+fn leaf_in(line: &[u8], hash: HashKind) -> Option<(EntryKind, ObjectId, &[u8])> {
+    let (head, path) = split_once(line, b'\t')?;
+    let (mode, digits) = split_once(head, b' ')?;
+    let kind = kind_of(mode)?;
+    let id = ObjectId::from_hex(digits).ok()?;
+    if id.kind() != hash {
+        return None;
+    }
+    Some((kind, id, path))
+}
+
+fn put(map: &mut PathMap, path: &[u8], kind: EntryKind, id: ObjectId) -> Result<(), ProbeError> {
+    if id.is_null() || matches!(kind, EntryKind::Tree) {
         return Err(ProbeError::BadLine);
     }
     Ok(map.put(path, kind, id)?)
-}
-
-fn split_once(bytes: &[u8], end: u8) -> Option<(&[u8], &[u8])> {
-    let at = bytes.iter().position(|byte| *byte == end)?;
-    Some((&bytes[..at], &bytes[at + 1..]))
 }
 
 /// The kind of a leaf with this mode.

@@ -80,8 +80,8 @@ fn shown_entries(alloc: Global, entries: &[EntryRef<'_>]) -> Result<Vec<u8>, Pro
 }
 
 fn push_ref(alloc: Global, answer: &mut Vec<u8>, entry: &EntryRef<'_>) -> Result<(), ProbeError> {
-    let mode = entry.mode.value();
-    push_word(answer, format!(in alloc; "{mode:o}")?.as_str())?;
+    let mode = octal(alloc, entry.mode.value())?;
+    push_field(answer, &mode)?;
     push_field(answer, entry.filename.as_bytes())?;
     push_id(answer, &entry.oid)
 }

@@ -1,5 +1,5 @@
 -- The changes of edits: at a place, along places, of all edits.
-use Rattle.std.proofs.Common.{◌≡◌, ◌∙◌, sym, ap, refl, ℕ, Bool, true, false, cond, ◌||◌, ◌<◌, ◌+◌, subst, List, [], ◌∷◌, ◌++◌, length, take, drop, get_or, append_assoc, map, Option, Some, None, IfSome, IsTrue, Result, Ok, Err, IfOk, Contains}
+use Rattle.std.proofs.Common.{◌≡◌, ◌∙◌, sym, ap, refl, ℕ, Bool, true, false, cond, ◌||◌, ◌<◌, ◌+◌, subst, List, [], ◌∷◌, ◌++◌, length, take, drop, get_or, append_assoc, map, Option, Some, None, IfSome, Result, Ok, Err, IfOk, Contains}
 use Rattle.std.specs.List.{flat_map, AllByRecursion}
 use Rattle.std.specs.FinMap.{FinMap, empty, contains_key}
 use Rattle.std.specs.Str.{bytes_eq}
@@ -14,7 +14,7 @@ use Rattle.gx_object.specs.declared.signature.Signature.{Signature}
 use Rattle.gx_rules.specs.Name.{name_cmp}
 use Rattle.gx_store.specs.Change.{HaveDistinctNames, refs_after}
 use Rattle.gx_store.specs.Kinds.{IsTargetOfKind, IsTargetChangeOfKind, IsActOfKind, AreChangesOfKind}
-use Rattle.gx_store.specs.State.{StoreState, RefState, IsUnreadable, OfFault}
+use Rattle.gx_store.specs.State.{StoreState, RefState, OfFault}
 use Rattle.gx_store.specs.declared.change.LogAct.{LogAct}
 use Rattle.gx_store.specs.declared.change.LogAct.TheVariants as log_act
 use Rattle.gx_store.specs.declared.change.RefChange.{RefChange}
@@ -22,16 +22,15 @@ use Rattle.gx_store.specs.declared.change.TargetChange.{TargetChange}
 use Rattle.gx_store.specs.declared.change.TargetChange.TheVariants as target_change
 use Rattle.gx_store.specs.declared.error.StoreError.{StoreError}
 use Rattle.gx_store.specs.declared.error.StoreError.TheVariants as store_error
-use Rattle.gx_store.specs.declared.error.What.TheVariants as what
 use Rattle.gx_store.specs.declared.log_line.LogLine.{LogLine}
 use Rattle.gx_store.specs.declared.target.Target.{Target}
 use Rattle.gx_store.specs.declared.target.Target.TheVariants as target
 use Rattle.gx_refs.specs.Chain.{AreDistinct}
-use Rattle.gx_refs.specs.Changing.{IsDue, IsLogChangeBy, IsWritten, LogCauses, IsSignedBy, IsSigned, AreSigned, IsPlanOfKind, IsChangeOfKind, SomeChangeCauses}
-use Rattle.gx_refs.specs.EditCauses.{CanSign, CannotSign, ChangeCauses, HasLine}
+use Rattle.gx_refs.specs.Changing.{IsDue, IsLogChangeBy, LogCauses, IsSignedBy, IsSigned, AreSigned, IsPlanOfKind, IsChangeOfKind, SomeChangeCauses}
+use Rattle.gx_refs.specs.EditCauses.{CanSign, CannotSign, ChangeCauses}
 use Rattle.gx_refs.specs.Edits.{EditsReferences, HasLogThere, end_change, target_change_at, is_logged, line_by, log_change_by, change_by, change_of, IsChange, AreChanges}
 use Rattle.gx_refs.specs.Errors.{of_store}
-use Rattle.gx_refs.specs.Log.{is_made, is_due_where, log_line}
+use Rattle.gx_refs.specs.Log.{is_made, is_due_where, IsLogFault, log_line}
 use Rattle.gx_refs.specs.Moving.{previous_id}
 use Rattle.gx_refs.specs.Plan.{Touch, touched, touched_names, touches_at, touches_of, touches}
 use Rattle.gx_refs.specs.Prepared.{SetsKind}
@@ -96,21 +95,11 @@ module _ (state : StoreState) (terms : Terms) (place : Place) (log : LogChange) 
       let signed_by : line_by terms.committer (λ w. log_line (previous_id (kind_of id) found) id w log.message) ≡ log_act.Append (log_line (previous_id (kind_of id) found) id who log.message) = ap (λ c. line_by c (λ w. log_line (previous_id (kind_of id) found) id w log.message)) by in
       (has_log, there, ap log_act.Append same ∙ sym signed_by ∙ sym (ap (λ t. log_change_by terms update found t) (sym is ∙ on)))
 
-  told_due : (told : Option RefState) (due : Bool) → IsDue told terms.mode log.force_create_reflog place due → due ≡ false → IsSignedBy told terms update place
-  told_due None due d off = tt
-  told_due (Some refs) due (has_log, there, is) off = λ on.
-      let clash : true ≡ false = sym on ∙ ap (λ t. is_logged terms update t place.shown) (sym there) ∙ sym is ∙ off in
-      cc
-
   pub unsigned : (due : Bool) → IsDue state.references terms.mode log.force_create_reflog place due → due ≡ false → IsSignedBy state.references terms update place
-  unsigned due d off = told_due state.references due d off
-
-  signed_in : (told : Option RefState) → CanSign terms.committer → IsSignedBy told terms update place
-  signed_in None s = tt
-  signed_in (Some refs) s = λ on. s
+  unsigned due (has_log, there, is) off = λ sure. let clash : true ≡ false = sym (sure has_log there) ∙ sym is ∙ off in cc
 
   pub signed : (who : Signature) → terms.committer ≡ Some who → is_writable_identity who ≡ true → IsSignedBy state.references terms update place
-  signed who by w = signed_in state.references (subst CanSign (sym by) w)
+  signed who by w = λ sure. subst CanSign (sym by) w
 
   pub sign_refused : (due : Bool) (e : RefError) → IsDue state.references terms.mode log.force_create_reflog place due → due ≡ true → CannotSign terms.committer e → LogCauses terms state update place e
   sign_refused due refusal.MissingCommitter (has_log, there, is) on h = ((has_log, there, sym is ∙ on), h)
@@ -126,9 +115,9 @@ module _ (state : StoreState) (terms : Terms) (place : Place) (log : LogChange) 
   sign_refused due (refusal.NameConflict n w) d on h = absurd h
   sign_refused due (refusal.DuplicateEdit n) d on h = absurd h
 
-  pub due_unread : (e : StoreError) → OfFault e (IsUnreadable state (what.Name place.name)) → LogCauses terms state update place (of_store e)
+  pub due_unread : (e : StoreError) → OfFault e (IsLogFault state terms.mode log.force_create_reflog place.shown place.name) → LogCauses terms state update place (of_store e)
   due_unread store_error.NoMemory h = tt
-  due_unread (store_error.Fault fault) h = (h.0, subst (λ f. IsTrue (state.unreadable f)) (sym h.0) h.1)
+  due_unread (store_error.Fault fault) h = (h.0, h.1)
 
 -- an edit that writes no line
 pub delete_removes : (told : Option RefState) (terms : Terms) (found : Option Target) (place : Place) (change : Change) (expected : PreviousValue) (log : RefLog) → change ≡ Delete expected log → IsLogChangeBy told terms change found place log_act.Remove
@@ -137,8 +126,10 @@ delete_removes told terms found place change expected log e =
     (l.0, l.1, sym (ap (λ c. log_change_by terms c found (is_logged terms c l.0 place.shown)) e))
 
 unlogged : (told : Option RefState) (terms : Terms) (change : Change) (place : Place) → ((has_log : Bool) → is_logged terms change has_log place.shown ≡ false) → IsSignedBy told terms change place
-unlogged None terms change place h = tt
-unlogged (Some refs) terms change place h = λ on. let clash : true ≡ false = sym on ∙ h (contains_key refs.logs place.name) in cc
+unlogged told terms change place h = λ sure.
+    let l = some_log told place in
+    let clash : true ≡ false = sym (sure l.0 l.1) ∙ h l.0 in
+    cc
 
 pub delete_signed : (told : Option RefState) (terms : Terms) (place : Place) (change : Change) (expected : PreviousValue) (log : RefLog) → change ≡ Delete expected log → IsSignedBy told terms change place
 delete_signed told terms place change expected log e = unlogged told terms change place (λ has_log. ap (λ c. is_logged terms c has_log place.shown) e)
@@ -156,7 +147,7 @@ symbolic_signed told terms place log (target.Symbolic to) other expected = unlog
 pub log_refused : (terms : Terms) (state : StoreState) (plan : Plan) (place : Place) (e : RefError) → Contains (touched plan) place → LogCauses terms state plan.edit.change place e → ChangeCauses terms state plan e
 log_refused terms state plan place refusal.MissingCommitter at ((has_log, there, on), h) = (record { place = place; touches = at; has_log = has_log; there = there; due = on }, h)
 log_refused terms state plan place (refusal.Unwritable f) at ((has_log, there, on), h) = (record { place = place; touches = at; has_log = has_log; there = there; due = on }, h)
-log_refused terms state plan place (refusal.Store f) at h = (place, at, h.0, h.1)
+log_refused terms state plan place (refusal.Store f) at h = record { place = place; touches = at; decides = h.0; unreadable = h.1 }
 log_refused terms state plan place refusal.NoMemory at h = tt
 log_refused terms state plan place (refusal.Cycle n) at h = absurd h
 log_refused terms state plan place (refusal.DepthLimitExceeded n) at h = absurd h

@@ -1,9 +1,9 @@
 -- Candidates, in the order in which they are looked for.
-use Rattle.std.proofs.Common.{◌≡◌, ◌∙◌, sym, ap, refl, subst, ℕ, zero, suc, ◌+◌, ◌<◌, List, [], ◌∷◌, ◌++◌, length, take, drop, slice_get, Option, Some, None, IfSome, arith, Contains}
+use Rattle.std.proofs.Common.{◌≡◌, sym, ap, subst, ℕ, zero, suc, List, [], ◌∷◌, ◌++◌, take, drop, slice_get, Option, Some, None, IfSome}
 use Rattle.std.specs.List.{AllByRecursion}
 use Rattle.gx_rules.specs.Name.{IsFullName}
 use Rattle.gx_store.specs.State.{StoreState, RefState}
-use Rattle.gx_refs.specs.Finding.{candidates, MeansNothing, IsReference, IsMeant, CandidateCauses, FindCauses}
+use Rattle.gx_refs.specs.Finding.{candidates, MeansNothing, IsReference, IsReached, IsMeant, CandidateCauses, FindCauses}
 use Rattle.gx_refs.specs.declared.error.RefError.{RefError}
 use Rattle.gx_refs.specs.declared.error.RefError.TheVariants as refusal
 use Rattle.gx_refs.specs.declared.reference.Reference.{Reference}
@@ -22,20 +22,20 @@ take_get [] at x e = cc
 take_get (y ∷ xs) zero x e = ap (λ z. z ∷ []) (same y x e)
 take_get (y ∷ xs) (suc at) x e = ap (λ zs. y ∷ zs) (take_get xs at x e)
 
-contains_get : {X : Type 0} (xs : List X) (at : ℕ) (x : X) → slice_get xs at ≡ Some x → Contains xs x
-contains_get [] at x e = cc
-contains_get (y ∷ xs) zero x e = (zero, omega arith, same y x e)
-contains_get (y ∷ xs) (suc at) x e = let r = contains_get xs at x e in (suc r.0, omega (arith, r.1), r.2)
-
 module _ (space : List ℕ) (told : Option RefState) (name : List ℕ) (at : ℕ) (text : List ℕ) (here : slice_get (candidates name) at ≡ Some text) where
-  pub found_at : (reference : Reference) → IsFullName text → IsReference space told text reference → IfSome told (λ refs. AllByRecursion (MeansNothing space refs.targets) (take at (candidates name))) → IsMeant space told name reference
-  found_at reference full is others = record {
+  reached : IfSome told (λ refs. AllByRecursion (MeansNothing space refs.targets) (take at (candidates name))) → IsReached space told name text
+  reached others = record {
     before = take at (candidates name);
     after = drop (suc at) (candidates name);
-    split = cut_get (candidates name) at text here ∙ ap (λ x. take at (candidates name) ++ x ∷ drop (suc at) (candidates name)) (sym is.named);
+    split = cut_get (candidates name) at text here;
+    others = others;
+  }
+
+  pub found_at : (reference : Reference) → IsFullName text → IsReference space told text reference → IfSome told (λ refs. AllByRecursion (MeansNothing space refs.targets) (take at (candidates name))) → IsMeant space told name reference
+  found_at reference full is others = record {
+    reached = subst (IsReached space told name) (sym is.named) (reached others);
     full = subst IsFullName (sym is.named) full;
     is = subst (λ n. IsReference space told n reference) (sym is.named) is;
-    others = others;
   }
 
   pub nothing_more : IfSome told (λ refs. MeansNothing space refs.targets text) → IfSome told (λ refs. AllByRecursion (MeansNothing space refs.targets) (take at (candidates name))) → IfSome told (λ refs. AllByRecursion (MeansNothing space refs.targets) (take (suc at) (candidates name)))
@@ -45,21 +45,21 @@ module _ (space : List ℕ) (told : Option RefState) (name : List ℕ) (at : ℕ
       go None m others = tt
       go (Some refs) m others = subst (AllByRecursion (MeansNothing space refs.targets)) (sym (take_get (candidates name) at text here)) (all_joined (MeansNothing space refs.targets) (take at (candidates name)) (text ∷ []) others (m, tt))
 
-pub candidate_refused : (space : List ℕ) (state : StoreState) (name : List ℕ) (at : ℕ) (text : List ℕ) (e : RefError) → slice_get (candidates name) at ≡ Some text → CandidateCauses space state text e → FindCauses space state name e
-candidate_refused space state name at text (refusal.NameValidation error) here h = absurd h
-candidate_refused space state name at text (refusal.Store f) here h = (text, contains_get (candidates name) at text here, h)
-candidate_refused space state name at text refusal.NoMemory here h = tt
-candidate_refused space state name at text refusal.MissingCommitter here h = absurd h
-candidate_refused space state name at text (refusal.Unwritable f) here h = absurd h
-candidate_refused space state name at text (refusal.Cycle n) here h = absurd h
-candidate_refused space state name at text (refusal.DepthLimitExceeded n) here h = absurd h
-candidate_refused space state name at text (refusal.MustExist n) here h = absurd h
-candidate_refused space state name at text (refusal.MustNotExist n a) here h = absurd h
-candidate_refused space state name at text (refusal.ReferenceOutOfDate n x a) here h = absurd h
-candidate_refused space state name at text (refusal.NameConflict n w) here h = absurd h
-candidate_refused space state name at text (refusal.DuplicateEdit n) here h = absurd h
+pub candidate_refused : (space : List ℕ) (state : StoreState) (name : List ℕ) (at : ℕ) (text : List ℕ) (e : RefError) → slice_get (candidates name) at ≡ Some text → IfSome state.references (λ refs. AllByRecursion (MeansNothing space refs.targets) (take at (candidates name))) → CandidateCauses space state text e → FindCauses space state name e
+candidate_refused space state name at text (refusal.NameValidation error) here others h = absurd h
+candidate_refused space state name at text (refusal.Store f) here others h = (text, reached space state.references name at text here others, h)
+candidate_refused space state name at text refusal.NoMemory here others h = tt
+candidate_refused space state name at text refusal.MissingCommitter here others h = absurd h
+candidate_refused space state name at text (refusal.Unwritable f) here others h = absurd h
+candidate_refused space state name at text (refusal.Cycle n) here others h = absurd h
+candidate_refused space state name at text (refusal.DepthLimitExceeded n) here others h = absurd h
+candidate_refused space state name at text (refusal.MustExist n) here others h = absurd h
+candidate_refused space state name at text (refusal.MustNotExist n a) here others h = absurd h
+candidate_refused space state name at text (refusal.ReferenceOutOfDate n x a) here others h = absurd h
+candidate_refused space state name at text (refusal.NameConflict n w) here others h = absurd h
+candidate_refused space state name at text (refusal.DuplicateEdit n) here others h = absurd h
 
 pub all_looked : (space : List ℕ) (told : Option RefState) (name : List ℕ) (at : ℕ) → at ≡ 6 → IfSome told (λ refs. AllByRecursion (MeansNothing space refs.targets) (take at (candidates name))) → IfSome told (λ refs. AllByRecursion (MeansNothing space refs.targets) (candidates name))
 all_looked space told name at e h = subst (λ k. IfSome told (λ refs. AllByRecursion (MeansNothing space refs.targets) (take k (candidates name)))) e h
 
-pub ruleset finding = (found_at, nothing_more, candidate_refused, all_looked)
+pub ruleset finding = (found_at, nothing_more, all_looked)

@@ -4,7 +4,6 @@ pub mod FateLemmas
 pub mod ChainLemmas
 pub mod LogLemmas
 pub mod MovingLemmas
-mod ShownLemmas
 mod PlanLemmas
 mod EditLemmas
 mod ChangeLemmas
@@ -14,3 +13,4 @@ mod AnswerLemmas
 mod FindLemmas
 mod ListLemmas
 mod PreparedLemmas
+mod RefusalLemmas

@@ -1,12 +1,12 @@
 -- The names of a listing: those within a namespace, in order.
-use Rattle.std.proofs.Common.{◌≡◌, ◌∙◌, sym, ap, refl, subst, ℕ, zero, suc, ◌+◌, ◌<◌, Bool, true, false, cond, ◌&&◌, ◌||◌, T, List, [], ◌∷◌, ◌++◌, map, length, take, drop, get_or, filter, nat_eq, eq-eqb, Option, Some, None, IfSome, IsSome, inl, inr, ◌⊎◌, Contains, arith}
+use Rattle.std.proofs.Common.{◌≡◌, ◌∙◌, sym, ap, refl, subst, ℕ, zero, suc, ◌+◌, ◌<◌, Bool, true, false, cond, ◌&&◌, ◌||◌, T, List, [], ◌∷◌, ◌++◌, map, length, take, drop, get_or, filter, nat_eq, eq-eqb, Option, Some, None, IfSome, IsSome, inl, inr, ◌⊎◌, Contains, arith, IsTrue, is_some}
 use Rattle.std.specs.Cmp.{tied_itself}
-use Rattle.std.specs.Cmp.Lexicographic.{texts_ties}
+use Rattle.std.specs.Cmp.Lexicographic.{texts_ties, nat_list_cmp_total}
 use Rattle.std.specs.FinMap.{FinMap, get, keys, entries, entries_sorted, contains_key-keys}
 use Rattle.std.specs.FinMap.Entries.{below_all, is_sorted}
 use Rattle.std.specs.List.{starts_with, AllByRecursion, list_any}
 use Rattle.std.specs.List.Sorted.{IsStrictlySortedBy}
-use Rattle.std.specs.Ordering.{nat_cmp, eq_by_cmp, is_lt, ordering_then}
+use Rattle.std.specs.Ordering.{eq_by_cmp, is_lt, ordering_then, ordering_reverse}
 use Rattle.std.specs.Str.{bytes_eq}
 use Rattle.std.specs.declared.cmp.Ordering.{Ordering}
 use Rattle.std.specs.declared.cmp.Ordering.TheVariants.{Less, Equal, Greater}
@@ -14,12 +14,14 @@ use Rattle.std.proofs.Math.Seq.{drop-append_seam}
 use Rattle.std.proofs.lemmas.Cmp.{nat_cmp_total}
 use Rattle.std.proofs.lemmas.List.{take_more}
 use Rattle.std.proofs.lemmas.List.Kept.{IsStrictlySortedBy-filter}
-use Rattle.gx_rules.specs.Name.{name_cmp}
+use Rattle.gx_rules.specs.Name.{name_cmp, IsFullName}
+use Rattle.gx_rules.specs.Namespace.{IsWithin}
+use Rattle.gx_store.specs.Listing as store_listing
 use Rattle.gx_store.specs.State.{RefState}
 use Rattle.gx_store.specs.declared.target.Target.{Target}
+use Rattle.gx_refs.specs.EditLaws.{ListsItsOwn}
 use Rattle.gx_refs.specs.Finding.{IsListed, IsListing}
 use Rattle.gx_refs.specs.Listed.{KeepsWithin}
-use Rattle.gx_refs.specs.Shown.{IsWithin}
 use Rattle.gx_refs.proofs.NameLemmas.{same_name, own_name}
 
 pub keep_more : (space : List ℕ) (ks names : List (List ℕ)) (k short : List ℕ) → KeepsWithin space ks names → IsWithin space k short → KeepsWithin space (ks ++ k ∷ []) (names ++ short ∷ [])
@@ -138,7 +140,7 @@ kept_from space (x ∷ ks) names n (inl (s, rest, w, e, more)) at = go (contains
     go (inr c) later = let r = later c in (r.0, contains_later x r.0 ks r.1, r.2)
 kept_from space (x ∷ ks) names n (inr (none, more)) at = let r = kept_from space ks names n more at in (r.0, contains_later x r.0 ks r.1, r.2)
 
-one_rest : (space a b : List ℕ) → space ++ a ≡ space ++ b → a ≡ b
+pub one_rest : (space a b : List ℕ) → space ++ a ≡ space ++ b → a ≡ b
 one_rest space a b e = sym (drop-append_seam space a) ∙ ap (drop (length space)) e ∙ drop-append_seam space b
 
 kept_to : (space : List ℕ) (ks names : List (List ℕ)) (k n : List ℕ) → KeepsWithin space ks names → Contains ks k → IsWithin space k n → Contains names n
@@ -190,6 +192,71 @@ lists space prefix from targets stored names f is kept = record {
         let begins : starts_with nat_eq k from ≡ true = ap (starts_with nat_eq k) f ∙ behind_space space prefix name ∙ l.begins in
         kept_to space stored names k name kept (subst (λ xs. Contains xs k) (sym is) (filter_to (λ n. starts_with nat_eq n from) (keys targets) k at begins)) (refl, l.full)
 
+kept_begin : (space prefix : List ℕ) (ks names : List (List ℕ)) → AllByRecursion (λ k. IsTrue (starts_with nat_eq k (space ++ prefix))) ks → KeepsWithin space ks names → AllByRecursion (λ n. IsTrue (starts_with nat_eq n prefix)) names
+kept_begin space prefix [] names a e = subst (AllByRecursion (λ n. IsTrue (starts_with nat_eq n prefix))) (sym e) tt
+kept_begin space prefix (x ∷ ks) names a (inl (s, rest, w, e, more)) =
+    subst (AllByRecursion (λ n. IsTrue (starts_with nat_eq n prefix))) (sym e) (sym (behind_space space prefix s) ∙ ap (λ n. starts_with nat_eq n (space ++ prefix)) (sym w.0) ∙ a.0, kept_begin space prefix ks rest a.1 more)
+kept_begin space prefix (x ∷ ks) names a (inr (none, more)) = kept_begin space prefix ks names a.1 more
+
+-- the names that any store lists, cut
+pub cut_listing : (space prefix from : List ℕ) (stored names : List (List ℕ)) → from ≡ space ++ prefix → store_listing.IsListing from stored → KeepsWithin space stored names → store_listing.IsListing prefix names
+cut_listing space prefix from stored names f is kept = record {
+  prefixed = kept_begin space prefix stored names (subst (λ p. AllByRecursion (λ k. IsTrue (starts_with nat_eq k p)) stored) f is.prefixed) kept;
+  rising = kept_rise space stored names is.rising kept;
+}
+
 pub told_lists : (space prefix from : List ℕ) (told : Option RefState) (stored names : List (List ℕ)) → from ≡ space ++ prefix → IfSome told (λ refs. stored ≡ filter (λ name. starts_with nat_eq name from) (keys refs.targets)) → KeepsWithin space stored names → IfSome told (λ refs. IsListing space prefix refs.targets names)
 told_lists space prefix from None stored names f is kept = tt
 told_lists space prefix from (Some refs) stored names f is kept = lists space prefix from refs.targets stored names f is kept
+
+-- ---- one listing
+
+-- no name is less than another that is less than it
+not_both : (x y : List ℕ) → name_cmp x y ≡ Less → name_cmp y x ≡ Less → ⊥
+not_both x y a b =
+    let clash : Less ≡ Greater = sym a ∙ nat_list_cmp_total.antisymm x y ∙ ap ordering_reverse b in
+    cc
+
+less_at : (x n : List ℕ) (xs : List (List ℕ)) → AllByRecursion (λ y. name_cmp x y ≡ Less) xs → Contains xs n → name_cmp x n ≡ Less
+less_at x n [] a (i, less, is) = absurd (omega (arith, less))
+less_at x n (y ∷ xs) a at = go (contains_parts y n xs at) (λ c. less_at x n xs a.1 c)
+  where
+    go : (y ≡ n) ⊎ Contains xs n → (Contains xs n → name_cmp x n ≡ Less) → name_cmp x n ≡ Less
+    go (inl same) later = subst (λ z. name_cmp x z ≡ Less) same a.0
+    go (inr c) later = later c
+
+-- rising lists of the same names are one list
+one_rising : (xs ys : List (List ℕ)) → IsStrictlySortedBy name_cmp xs → IsStrictlySortedBy name_cmp ys → ((n : List ℕ) → Contains xs n → Contains ys n) → ((n : List ℕ) → Contains ys n → Contains xs n) → xs ≡ ys
+unfolding IsStrictlySortedBy
+one_rising [] [] a b to back = refl
+one_rising [] (y ∷ ys) a b to back = let r = back y (zero, omega arith, refl) in absurd (omega (arith, r.1))
+one_rising (x ∷ xs) [] a b to back = let r = to x (zero, omega arith, refl) in absurd (omega (arith, r.1))
+one_rising (x ∷ xs) (y ∷ ys) a b to back =
+    ap (λ z. z ∷ xs) heads ∙ ap (λ zs. y ∷ zs) (one_rising xs ys a.1 b.1 (λ n c. later x y xs ys n heads a.0 c (to n (contains_later x n xs c))) (λ n c. later y x ys xs n (sym heads) b.0 c (back n (contains_later y n ys c))))
+  where
+    first : (y ≡ x) ⊎ Contains ys x → (x ≡ y) ⊎ Contains xs y → x ≡ y
+    first (inl same) other = sym same
+    first (inr c) (inl same) = same
+    first (inr c) (inr d) = absurd (not_both x y (less_at x y xs a.0 d) (less_at y x ys b.0 c))
+
+    heads : x ≡ y
+    heads = first (contains_parts y x ys (to x (zero, omega arith, refl))) (contains_parts x y xs (back y (zero, omega arith, refl)))
+
+    later : (u v : List ℕ) (us vs : List (List ℕ)) (n : List ℕ) → u ≡ v → AllByRecursion (λ z. name_cmp u z ≡ Less) us → Contains us n → Contains (v ∷ vs) n → Contains vs n
+    later u v us vs n same above c d = go (contains_parts v n vs d)
+      where
+        go : (v ≡ n) ⊎ Contains vs n → Contains vs n
+        go (inr e) = e
+        go (inl e) =
+            let less : name_cmp u n ≡ Less = less_at u n us above c in
+            let own : name_cmp n n ≡ Less = subst (λ z. name_cmp z n ≡ Less) (same ∙ e) less in
+            absurd (not_both n n own own)
+
+pub lists_its_own : ListsItsOwn
+lists_its_own space prefix one other names others same a b =
+    one_rising names others a.rising b.rising
+    (λ n c. (b.each n).1 (turn one other (λ name full. same name full) n ((a.each n).0 c)))
+    (λ n c. (a.each n).1 (turn other one (λ name full. sym (same name full)) n ((b.each n).0 c)))
+  where
+    turn : (from to : FinMap name_cmp Target) → ((name : List ℕ) → IsFullName name → is_some (get from (space ++ name)) ≡ is_some (get to (space ++ name))) → (n : List ℕ) → IsListed space prefix from n → IsListed space prefix to n
+    turn from to alike n l = record { begins = l.begins; full = l.full; there = sym (alike n l.full) ∙ l.there }

@@ -35,7 +35,7 @@ goes_by_log force name off not_made = (at false, at true)
     at : (has_log : Bool) → (force || is_made Normal name || has_log) ≡ has_log
     at has_log = ap (λ t. t || is_made Normal name || has_log) off ∙ ap (λ t. t || has_log) not_made
 
-pub fault_of_log : (state : StoreState) (force : Bool) (name : List ℕ) (r : Result Bool StoreError) → force ≡ false → is_made Normal name ≡ false → IfFault r (IsUnreadable state (what.Name name)) → IfFault r (IsLogFault state Normal force name)
+pub fault_of_log : (state : StoreState) (force : Bool) (name : List ℕ) (r : Result Bool StoreError) → force ≡ false → is_made Normal name ≡ false → IfFault r (IsUnreadable state (what.Name name)) → IfFault r (IsLogFault state Normal force name name)
 fault_of_log state force name (Ok has_log) off not_made h = tt
 fault_of_log state force name (Err store_error.NoMemory) off not_made h = tt
 fault_of_log state force name (Err (store_error.Fault fault)) off not_made h = (goes_by_log force name off not_made, h)

@@ -165,7 +165,7 @@ among_within name (x ∷ before) rest = go (bytes_eq x name) (among_within name 
     go true e = refl
     go false e = e
 
-pub fault_at : (state : StoreState) (mode : WriteReflog) (name : List ℕ) (before rest names : List (List ℕ)) (e : StoreError) → names ≡ before ++ name ∷ rest → OfFault e (IsLogFault state mode false name) → OfFault e (IsFaultAt state mode names)
+pub fault_at : (state : StoreState) (mode : WriteReflog) (name : List ℕ) (before rest names : List (List ℕ)) (e : StoreError) → names ≡ before ++ name ∷ rest → OfFault e (IsLogFault state mode false name name) → OfFault e (IsFaultAt state mode names)
 fault_at state mode name before rest names NoMemory is h = tt
 fault_at state mode name before rest names (Fault fault) is h = (name, ap (is_among name) is ∙ among_within name before rest, h)
 
@@ -176,7 +176,7 @@ parted names end some is =
     sym (take_all (length names - 1 + 1) names (omega arith)) ∙ take_more names (length names - 1) end (omega arith) ∙ ap (λ x. take (length names - 1) names ++ x ∷ []) (sym is)
 
 -- what faults of `change_at` are, for the names before the last and for the last
-pub fault_before : (state : StoreState) (mode : WriteReflog) (names : List (List ℕ)) (at : ℕ) (name : List ℕ) (end : List ℕ) (e : StoreError) → names ≡ take (length names - 1) names ++ end ∷ [] → at < length (take (length names - 1) names) → name ≡ get_or (take (length names - 1) names) at name → OfFault e (IsLogFault state mode false name) → OfFault e (IsFaultAt state mode names)
+pub fault_before : (state : StoreState) (mode : WriteReflog) (names : List (List ℕ)) (at : ℕ) (name : List ℕ) (end : List ℕ) (e : StoreError) → names ≡ take (length names - 1) names ++ end ∷ [] → at < length (take (length names - 1) names) → name ≡ get_or (take (length names - 1) names) at name → OfFault e (IsLogFault state mode false name name) → OfFault e (IsFaultAt state mode names)
 fault_before state mode names at name end e parts here is h =
     let way = take (length names - 1) names in
     let split : way ≡ take at way ++ name ∷ drop (at + 1) way = sym (take-append-drop at way) ∙ ap (λ ys. take at way ++ ys) (at_drop_more (λ ys. ys) way at name here ∙ ap (λ x. x ∷ drop (at + 1) way) (sym is)) in

@@ -43,7 +43,7 @@ distinct_more (x ∷ names) next d h =
     let p = neither _ _ h in
     (among_more x next names d.0 (turned x next p.0), distinct_more names next d.1 p.1)
 
-among_at : (name : List ℕ) (names : List (List ℕ)) (next : List ℕ) (more : List (List ℕ)) → is_among name (names ++ next ∷ more) ≡ false → bytes_eq next name ≡ false
+pub among_at : (name : List ℕ) (names : List (List ℕ)) (next : List ℕ) (more : List (List ℕ)) → is_among name (names ++ next ∷ more) ≡ false → bytes_eq next name ≡ false
 among_at name [] next more h = (neither _ _ h).0
 among_at name (x ∷ names) next more h = among_at name names next more (neither _ _ h).1
 

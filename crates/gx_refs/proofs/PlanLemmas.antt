@@ -4,10 +4,10 @@ use Rattle.std.specs.List.{AllZip}
 use Rattle.std.proofs.lemmas.List.{take_more}
 use Rattle.gx_store.specs.State.{StoreState, RefState}
 use Rattle.gx_store.specs.declared.target.Target.{Target}
-use Rattle.gx_refs.specs.Chain.{IsChain, IsEnd, EndsIn, ChainCauses}
+use Rattle.gx_refs.specs.Chain.{AreDistinct, IsChain, IsEnd, EndsIn, ChainCauses}
 use Rattle.gx_refs.specs.EditCauses.{WayCauses, EditWayCauses}
 use Rattle.gx_refs.specs.Errors.{of_chain, with_given_name}
-use Rattle.gx_refs.specs.Plan.{ArePlaces, stored_names, names_of, GoesAlong, FollowsChain}
+use Rattle.gx_refs.specs.Plan.{ArePlaces, stored_names, names_of, GoesAlong, FollowsChain, IsWay}
 use Rattle.gx_refs.specs.Shown.{IsShown, stored_name}
 use Rattle.gx_refs.specs.declared.chain_error.ChainError.{ChainError}
 use Rattle.gx_refs.specs.declared.chain_error.ChainError.TheVariants as chain_error
@@ -55,7 +55,7 @@ no_chain name names c e = let clash : name ∷ c.others ≡ [] = sym c.first ∙
 
 -- ---- a chain as a way
 
-names_append : (before : List Place) (end : Place) → stored_names (before ++ end ∷ []) ≡ stored_names before ++ end.name ∷ []
+pub names_append : (before : List Place) (end : Place) → stored_names (before ++ end ∷ []) ≡ stored_names before ++ end.name ∷ []
 names_append [] end = refl
 names_append (p ∷ before) end = ap (λ xs. p.name ∷ xs) (names_append before end)
 
@@ -73,6 +73,10 @@ follows_chain told name names found way e c s (n, f) = record {
         let at_names : EndsIn refs.targets name (names_of way) end found = subst (λ xs. EndsIn refs.targets name xs end found) (sym n) e in
         let at_end : EndsIn refs.targets name (names_of way) way.end.name found = subst (λ x. EndsIn refs.targets name (names_of way) x found) same at_names in
         subst (EndsIn refs.targets name (names_of way) way.end.name) (sym f) at_end
+
+pub distinct_way : (told : Option RefState) (deref : Bool) (name : List ℕ) (way : Way) → IsWay told deref name way → AreDistinct (names_of way)
+distinct_way told true name way w = w.chain.distinct
+distinct_way told false name way w = subst (λ (before : List Place). AreDistinct (stored_names (before ++ way.end ∷ []))) (sym w.alone) (refl, tt)
 
 -- ---- refusals
 

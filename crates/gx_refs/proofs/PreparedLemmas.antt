@@ -1,21 +1,20 @@
 -- Plans of edits: what is known of all, and why the edits are refused.
-use Rattle.std.proofs.Common.{◌≡◌, ◌∙◌, sym, ap, refl, subst, ℕ, zero, suc, ◌+◌, ◌<◌, true, false, Bool, List, [], ◌∷◌, ◌++◌, length, get_or, append_assoc, map, Option, Some, None, IfSome, IsSome, IsTrue, inl, inr, ◌⊎◌, Contains, arith}
-use Rattle.std.specs.FinMap.{get, contains_key}
+use Rattle.std.proofs.Common.{◌≡◌, ◌∙◌, sym, ap, refl, subst, ℕ, zero, suc, ◌<◌, true, false, Bool, List, [], ◌∷◌, ◌++◌, length, get_or, append_assoc, map, Option, IfSome, IsSome, IsTrue, inl, inr, ◌⊎◌, Contains, arith}
+use Rattle.std.specs.FinMap.{get}
 use Rattle.std.proofs.lemmas.List.Elements.{Contains-push}
 use Rattle.std.specs.List.{AllByRecursion, AllZip, flat_map}
 use Rattle.gx_hash.specs.declared.kind.HashKind.{HashKind}
-use Rattle.gx_store.specs.Change.{refs_after}
-use Rattle.gx_store.specs.Kinds.{AreChangesOfKind}
 use Rattle.gx_store.specs.State.{StoreState, RefState}
 use Rattle.gx_store.specs.declared.change.RefChange.{RefChange}
 use Rattle.gx_store.specs.declared.error.What.{What}
 use Rattle.gx_store.specs.declared.error.What.TheVariants as what
-use Rattle.gx_refs.specs.Answer.{answers}
-use Rattle.gx_refs.specs.Chain.{is_among, AreDistinct, IsChain}
+use Rattle.gx_refs.specs.Answering.{answers}
+use Rattle.gx_refs.specs.Answer.{AreAnswers}
+use Rattle.gx_refs.specs.Chain.{AreDistinct}
 use Rattle.gx_refs.specs.Changing.{AreSigned, IsSigned, IsPlanOfKind, SomeChangeCauses}
-use Rattle.gx_refs.specs.EditCauses.{OfEdit, OfPlan, OfTwo, WayCauses, EditWayCauses, ExpectedCauses, ChangeCauses, HasLine, CanSign, EditCauses, MakesConflict, IsInTheWay, MeetAt, AreMet, AreAccepted}
-use Rattle.gx_refs.specs.Edits.{AreChanges, EditsReferences, is_logged}
-use Rattle.gx_refs.specs.Plan.{IsWay, IsPlan, ArePlans, ArePlaces, KnowsShown, places_of, stored_names, names_of, touched, touches, touches_of, touched_names, makes, ShareNone, HasRoom}
+use Rattle.gx_refs.specs.EditCauses.{OfEdit, OfPlan, OfTwo, WayCauses, EditWayCauses, ExpectedCauses, ChangeCauses, HasSureLine, CanSign, EditCauses, MakesConflict, MeetAt, AreMet}
+use Rattle.gx_refs.specs.Edits.{AreChanges}
+use Rattle.gx_refs.specs.Plan.{IsPlan, ArePlans, ArePlaces, KnowsShown, places_of, names_of, touched, touches, touches_of, touched_names, makes, ShareNone, HasRoom}
 use Rattle.gx_refs.specs.Planned.{SomeWayCauses, SomeExpectedCauses, ArePlansSound, FindsKind, Readies, PlanCauses}
 use Rattle.gx_refs.specs.Prepared.{Ready, Prepares, AreEditsOfKind, SetsKind}
 use Rattle.gx_refs.specs.Seen.{HaveDistinctWays, Meet, SharedCauses, IsMadeBy, ConflictsWith, AllRoomCauses}
@@ -25,9 +24,10 @@ use Rattle.gx_refs.specs.declared.error.RefError.{RefError}
 use Rattle.gx_refs.specs.declared.error.RefError.TheVariants as refusal
 use Rattle.gx_refs.specs.declared.plan.Place.{Place}
 use Rattle.gx_refs.specs.declared.plan.Plan.{Plan}
-use Rattle.gx_refs.specs.declared.plan.Way.{Way}
 use Rattle.gx_refs.specs.declared.terms.Terms.{Terms}
+use Rattle.gx_refs.proofs.AnswerLemmas.{answers_tell}
 use Rattle.gx_refs.proofs.ChangeLemmas.{changes_make, all_at, contains_at}
+use Rattle.gx_refs.proofs.PlanLemmas.{distinct_way}
 
 -- ---- lists beside one another
 
@@ -71,10 +71,6 @@ all_shown space told [] (p ∷ plans) z = absurd z
 all_shown space told (e ∷ edits) [] z = absurd z
 all_shown space told (e ∷ edits) (p ∷ plans) z = (z.0.shown, all_shown space told edits plans z.1)
 
-distinct_way : (told : Option RefState) (deref : Bool) (name : List ℕ) (way : Way) → IsWay told deref name way → AreDistinct (names_of way)
-distinct_way told true name way w = w.chain.distinct
-distinct_way told false name way w = subst (λ (before : List Place). AreDistinct (stored_names (before ++ way.end ∷ []))) (sym w.alone) (refl, tt)
-
 pub all_distinct : (space : List ℕ) (told : Option RefState) (edits : List RefEdit) (plans : List Plan) → ArePlans space told edits plans → HaveDistinctWays plans
 all_distinct space told [] [] z = tt
 all_distinct space told [] (p ∷ plans) z = absurd z
@@ -95,17 +91,12 @@ sound state terms edits plans ways k found = record {
   kind = all_kinds state.hash terms.space state.references edits plans ways k found;
 }
 
-pub lines_signed : (told : Option RefState) (terms : Terms) (plans : List Plan) → AreSigned told terms (touches plans) → IfSome told (λ refs. AllByRecursion (λ plan. HasLine terms (Some refs) plan → CanSign terms.committer) plans)
-lines_signed None terms plans a = tt
-lines_signed (Some refs) terms plans a = go plans a
-  where
-    go : (plans : List Plan) → AreSigned (Some refs) terms (touches plans) → AllByRecursion (λ plan. HasLine terms (Some refs) plan → CanSign terms.committer) plans
-    go [] a = tt
-    go (plan ∷ plans) a = (
-      λ line. all_of (IsSigned (Some refs) terms) (λ (place : Place). record { plan = plan; place = place }) (touched plan) line.place (all_left (IsSigned (Some refs) terms) (touches_of plan) (touches plans) a) line.touches
-          (ap (λ b. is_logged terms plan.edit.change b line.place.shown) (sym line.there) ∙ line.due),
-      go plans (all_right (IsSigned (Some refs) terms) (touches_of plan) (touches plans) a),
-    )
+pub lines_signed : (told : Option RefState) (terms : Terms) (plans : List Plan) → AreSigned told terms (touches plans) → AllByRecursion (λ plan. HasSureLine terms told plan → CanSign terms.committer) plans
+lines_signed told terms [] a = tt
+lines_signed told terms (plan ∷ plans) a = (
+  λ line. all_of (IsSigned told terms) (λ (place : Place). record { plan = plan; place = place }) (touched plan) line.place (all_left (IsSigned told terms) (touches_of plan) (touches plans) a) line.touches line.due,
+  lines_signed told terms plans (all_right (IsSigned told terms) (touches_of plan) (touches plans) a),
+)
 
 pub readies : (terms : Terms) (told : Option RefState) (plans : List Plan) (changes : List RefChange) (answer : List RefEdit) → AreMet terms.space plans → ShareNone plans → AreDistinct (flat_map touched_names plans) → AllByRecursion (λ plan. makes plan ≡ true → HasRoom told plans plan) plans → AreChanges told terms (touches plans) changes → AreSigned told terms (touches plans) → answer ≡ answers plans → Readies terms told plans (record { changes = changes; answer = answer })
 readies terms told plans changes answer met apart distinct room changed signed is = record {
@@ -116,7 +107,14 @@ readies terms told plans changes answer met apart distinct room changed signed i
 }
 
 pub prepares : (terms : Terms) (told : Option RefState) (edits : List RefEdit) (plans : List Plan) (ready : Ready) → ArePlans terms.space told edits plans → Readies terms told plans ready → Prepares terms told edits ready
-prepares terms told edits plans ready ways r = record { plans = plans; ways = ways; accepted = r.accepted; changed = r.changed; makes = r.makes; answered = r.answered }
+prepares terms told edits plans ready ways r = record {
+  plans = plans;
+  ways = ways;
+  accepted = r.accepted;
+  changed = r.changed;
+  makes = r.makes;
+  answered = subst (AreAnswers terms.space told plans) (sym r.answered) (answers_tell terms.space told edits plans ways);
+}
 
 -- ---- one of the edits
 
@@ -287,7 +285,7 @@ module _ (terms : Terms) (state : StoreState) (edits : List RefEdit) (plans : Li
   change_fault (what.Object id) plan at h = inr (of_plan (λ p. ChangeCauses terms state p (refusal.Store (what.Object id))) plan at h)
   change_fault what.Index plan at h = inr (of_plan (λ p. ChangeCauses terms state p (refusal.Store what.Index)) plan at h)
   change_fault what.Write plan at h = inr (of_plan (λ p. ChangeCauses terms state p (refusal.Store what.Write)) plan at h)
-  change_fault what.Listing plan at (place, t, is, u) = cc
+  change_fault what.Listing plan at h = let e : what.Listing ≡ what.Name h.place.name = h.unreadable.0 in cc
 
   change_causes : (e : RefError) → SomeChangeCauses terms state plans e → EditCauses terms state edits e
   change_causes refusal.MissingCommitter (plan, at, h) = of_plan (λ p. ChangeCauses terms state p refusal.MissingCommitter) plan at h

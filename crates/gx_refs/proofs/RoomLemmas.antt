@@ -1,6 +1,6 @@
 -- The names that edits make: above one another, and beside stored names.
-use Rattle.std.proofs.Common.{◌≡◌, ◌∙◌, sym, ap, refl, subst, Bool, true, false, cond, List, [], ◌∷◌, ◌++◌, ℕ, zero, suc, ◌+◌, ◌<◌, length, take, drop, get_or, Option, Some, None, is_some, IsSome, IfSome, append_assoc, ◌≤◌, arith, ◌⊎◌, inl, inr, Contains}
-use Rattle.std.specs.BTreeMap.{BTreeMap, get, is_at}
+use Rattle.std.proofs.Common.{◌≡◌, ◌∙◌, sym, ap, refl, subst, Bool, true, false, cond, List, [], ◌∷◌, ◌++◌, ℕ, zero, suc, ◌+◌, ◌<◌, length, take, drop, get_or, Option, Some, None, IsSome, IfSome, append_assoc, ◌≤◌, arith, ◌⊎◌, inl, inr, Contains}
+use Rattle.std.specs.BTreeMap.{BTreeMap, is_at}
 use Rattle.std.specs.Cmp.Lexicographic.{texts_ties}
 use Rattle.std.specs.List.{AllByRecursion}
 use Rattle.std.specs.Str.{bytes_eq}
@@ -10,7 +10,7 @@ use Rattle.gx_rules.specs.Name.{name_cmp}
 use Rattle.gx_store.specs.Conflict.{IsProperPrefix, Conflict}
 use Rattle.gx_store.specs.State.{StoreState, RefState}
 use Rattle.gx_refs.specs.Plan.{makes, HasRoom}
-use Rattle.gx_refs.specs.Seen.{made_get, HasMade, IsMadeBy, IsAlone, HasRoomAbove, ConflictsWith, RoomCauses, RoomCausesBy, AllRoomCauses}
+use Rattle.gx_refs.specs.Seen.{made_get, HasMade, IsMadeBy, IsAlone, HasRoomAbove, ConflictsWith, RoomCauses, AllRoomCauses}
 use Rattle.gx_refs.specs.declared.error.RefError.{RefError}
 use Rattle.gx_refs.specs.declared.error.RefError.TheVariants as refusal
 use Rattle.gx_refs.specs.declared.plan.Plan.{Plan}

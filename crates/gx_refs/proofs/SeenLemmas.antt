@@ -1,6 +1,5 @@
 -- Names that were seen: which are new, and what is known where one is not.
-use Rattle.std.proofs.Common.{◌≡◌, ◌∙◌, sym, ap, refl, subst, ℕ, suc, zero, Bool, true, false, cond, ◌||◌, ◌<◌, ◌+◌, List, [], ◌∷◌, ◌++◌, map, length, take, drop, get_or, inl, inr, ◌⊎◌, Contains, arith, append_assoc}
-use Rattle.std.proofs.lemmas.List.{append-nil}
+use Rattle.std.proofs.Common.{◌≡◌, ◌∙◌, sym, ap, refl, subst, ℕ, suc, zero, Bool, true, false, cond, ◌||◌, ◌<◌, ◌+◌, List, [], ◌∷◌, ◌++◌, length, take, drop, get_or, inl, inr, ◌⊎◌, Contains, arith, append_assoc}
 use Rattle.std.proofs.lemmas.List.Elements.{Contains-append_left, Contains-append_right, Contains-push}
 use Rattle.std.proofs.lemmas.Grind.{flat_map-append}
 use Rattle.std.specs.List.{flat_map, AllByRecursion}
@@ -20,7 +19,7 @@ use Rattle.gx_refs.specs.declared.edit.Change.TheVariants.{Update, Delete}
 use Rattle.gx_refs.specs.declared.plan.Place.{Place}
 use Rattle.gx_refs.specs.declared.plan.Plan.{Plan}
 use Rattle.gx_refs.proofs.ChangeLemmas.{split_at, contains_at}
-use Rattle.gx_refs.proofs.EditLemmas.{among_append, map_append, touched_on_way}
+use Rattle.gx_refs.proofs.EditLemmas.{among_append, map_append}
 
 put_last : (t b : Bool) → cond t true b ≡ (b || (t || false))
 put_last true true = refl

@@ -1,8 +1,12 @@
 -- What a list of edits answers: the edits as they were made, one a touched name.
-use Rattle.std.specs.Prelude.{false, List, [], ◌∷◌, ◌++◌, Option, Some, None}
-use Rattle.std.specs.List.{flat_map}
+use Rattle.std.specs.Prelude.{◌≡◌, ◌⊎◌, ℕ, false, List, ◌∷◌, ◌++◌, Option, Some, None, IfSome, bytes_eq, if◌then◌else◌}
+use Rattle.std.specs.List.{AllZip}
+use Rattle.std.specs.FinMap.{get}
+use Rattle.gx_store.specs.State.{RefState}
 use Rattle.gx_store.specs.declared.target.Target.{Target}
 use Rattle.gx_store.specs.declared.target.Target.TheVariants as target
+use Rattle.gx_refs.specs.Plan.{Touch, places_of, touches}
+use Rattle.gx_refs.specs.Shown.{IsShownFound}
 use Rattle.gx_refs.specs.declared.edit.PreviousValue.{PreviousValue}
 use Rattle.gx_refs.specs.declared.edit.PreviousValue.TheVariants.{MustNotExist, MustExistAndMatch}
 use Rattle.gx_refs.specs.declared.edit.RefLog.TheVariants.{Only}
@@ -10,10 +14,10 @@ use Rattle.gx_refs.specs.declared.edit.Change.{Change}
 use Rattle.gx_refs.specs.declared.edit.Change.TheVariants.{Update, Delete}
 use Rattle.gx_refs.specs.declared.edit.RefEdit.{RefEdit}
 use Rattle.gx_refs.specs.declared.plan.Place.{Place}
-use Rattle.gx_refs.specs.declared.plan.Way.{Way}
 use Rattle.gx_refs.specs.declared.plan.Plan.{Plan}
+use Rattle.gx_refs.specs.declared.plan.Way.{Way}
 
--- the edit expected what was there
+-- what an edit says that it expected: what was there, or nothing
 abbrev pub expecting : Option Target → PreviousValue
 expecting None = MustNotExist
 expecting (Some old) = MustExistAndMatch old
@@ -23,37 +27,34 @@ abbrev pub change_from : Change → Option Target → Change
 change_from (Update log expected new) old = Update log (expecting old) new
 change_from (Delete expected log) old = Delete (expecting old) log
 
--- before the end it is of the log alone
+-- the change before the end, which is of the log alone
 abbrev pub log_alone : Change → Change
 log_alone (Update log expected new) = Update (record log { mode = Only }) expected new
 log_alone (Delete expected log) = Delete expected Only
 
--- the edit of one place, without following
-abbrev pub answer_at : Place → Change → RefEdit
-answer_at place change = record { change = change; name = place.shown; deref = false }
+-- the change of a touch: at the end of its way as it was given, and before it of the log alone
+abbrev pub change_at : Touch → Change
+change_at touch =
+    if bytes_eq touch.place.name touch.plan.way.end.name
+    then touch.plan.edit.change else log_alone touch.plan.edit.change
 
--- a symbolic reference on the way, which leads to the next
-abbrev pub answer_before : Change → Place → Place → RefEdit
-answer_before change place next = answer_at place (change_from (log_alone change) (Some (target.Symbolic next.shown)))
+-- What stands at a place of a way: at the end what was found there, and before it a reference that is symbolic to the
+-- next place.
+abbrev pub StandsAt : Way → Place → Option Target → Type 0
+StandsAt way place old =
+    ((place ≡ way.end) × (old ≡ way.shown))
+    ⊎ ((before : List Place) × (next : Place) × (after : List Place)
+    × (places_of way ≡ before ++ place ∷ next ∷ after) × (old ≡ Some (target.Symbolic next.shown)))
 
--- along the places before an end, each of which leads to the next
-abbrev pub answers_before : Change → List Place → Place → List RefEdit
-answers_before change [] end = []
-answers_before change (place ∷ []) end = answer_before change place end ∷ []
-answers_before change (place ∷ next ∷ more) end =
-    answer_before change place next ∷ answers_before change (next ∷ more) end
+-- The answer at a touched name tells the change, and that it expected what was there. (gix, "Transaction::commit")
+pub record IsAnswer (space : List ℕ) (told : Option RefState) (touch : Touch) (edit : RefEdit) : Type 0 where
+  pub named : edit.name ≡ touch.place.shown
+  pub still : edit.deref ≡ false
+  pub old : Option Target
+  pub stood : StandsAt touch.plan.way touch.place old
+  pub shown : IfSome told (λ refs. IsShownFound space (get refs.targets touch.place.name) old)
+  pub change : edit.change ≡ change_from (change_at touch) old
 
--- the answer along some places before the end, and at the end
-abbrev pub answers_along : Change → List Place → Way → List RefEdit
-answers_along change before way =
-    answers_before change before way.end ++ answer_at way.end (change_from change way.shown) ∷ []
-
--- An update answers each place of its way, and a deletion the end alone.
-abbrev pub answers_by : Change → Way → List RefEdit
-answers_by (Update log expected new) way = answers_along (Update log expected new) way.before way
-answers_by (Delete expected log) way = answers_along (Delete expected log) [] way
-
--- The given change at each touched name, in the order of the given edits and along each way: it expected the target
--- that was there, and before the end it is of the log alone. (gix, "Transaction::commit")
-abbrev pub answers : List Plan → List RefEdit
-answers plans = flat_map (λ (plan : Plan). answers_by plan.edit.change plan.way) plans
+-- one answer a touch, in order
+abbrev pub AreAnswers : List ℕ → Option RefState → List Plan → List RefEdit → Type 0
+AreAnswers space told plans edits = AllZip (IsAnswer space told) (touches plans) edits

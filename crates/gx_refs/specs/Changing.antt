@@ -1,19 +1,17 @@
 -- For the private functions alone: the change of one name, whichever logs there are.
-use Rattle.std.specs.Prelude.{◌≡◌, ℕ, Bool, false, true, List, Option, Some, IfSome, IsTrue, Contains}
+use Rattle.std.specs.Prelude.{◌≡◌, Bool, true, List, Option, IfSome, Contains}
 use Rattle.std.specs.List.{AllByRecursion}
-use Rattle.std.specs.FinMap.{contains_key}
 use Rattle.gx_hash.specs.declared.kind.HashKind.{HashKind}
-use Rattle.gx_object.specs.declared.signature.Signature.{Signature}
 use Rattle.gx_store.specs.Kinds.{IsTargetOfKind, IsTargetChangeOfKind, IsActOfKind}
-use Rattle.gx_store.specs.State.{StoreState, RefState}
+use Rattle.gx_store.specs.State.{StoreState, RefState, IsUnreadable}
 use Rattle.gx_store.specs.declared.change.LogAct.{LogAct}
 use Rattle.gx_store.specs.declared.change.RefChange.{RefChange}
 use Rattle.gx_store.specs.declared.error.What.TheVariants as what
 use Rattle.gx_store.specs.declared.target.Target.{Target}
-use Rattle.gx_refs.specs.EditCauses.{CanSign, CannotSign, ChangeCauses, HasLine}
+use Rattle.gx_refs.specs.EditCauses.{CanSign, CannotSign, ChangeCauses, GoesByLogAt}
 use Rattle.gx_refs.specs.Edits.{HasLogThere, is_logged, log_change_by}
 use Rattle.gx_refs.specs.Log.{is_due_where}
-use Rattle.gx_refs.specs.Plan.{Touch, touched}
+use Rattle.gx_refs.specs.Plan.{Touch}
 use Rattle.gx_refs.specs.Prepared.{SetsKind}
 use Rattle.gx_refs.specs.declared.edit.Change.{Change}
 use Rattle.gx_refs.specs.declared.error.RefError.{RefError}
@@ -50,17 +48,17 @@ LogCauses terms state change place refusal.MissingCommitter =
 LogCauses terms state change place (refusal.Unwritable field) =
     IsWritten state.references terms change place × CannotSign terms.committer (refusal.Unwritable field)
 LogCauses terms state change place (refusal.Store fault) =
-    (fault ≡ what.Name place.name) × IsTrue (state.unreadable fault)
+    GoesByLogAt terms change place × IsUnreadable state (what.Name place.name) fault
 LogCauses terms state change place refusal.NoMemory = Unit {0}
 LogCauses terms state change place error = ⊥
 
--- where a line is written at the place, it can be signed
+-- where a line is surely written at the place, it can be signed
 abbrev pub IsSignedBy : Option RefState → Terms → Change → Place → Type 0
 IsSignedBy told terms change place =
-    IfSome told (λ refs.
-    is_logged terms change (contains_key refs.logs place.name) place.shown ≡ true → CanSign terms.committer)
+    ((has_log : Bool) → HasLogThere told place has_log → is_logged terms change has_log place.shown ≡ true)
+    → CanSign terms.committer
 
--- where the touch writes a line, it can be signed
+-- where the touch surely writes a line, it can be signed
 abbrev pub IsSigned : Option RefState → Terms → Touch → Type 0
 IsSigned told terms touch = IsSignedBy told terms touch.plan.edit.change touch.place
 

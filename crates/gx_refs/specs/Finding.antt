@@ -4,11 +4,10 @@ use Rattle.std.specs.List.{starts_with, AllByRecursion}
 use Rattle.std.specs.List.Sorted.{IsStrictlySortedBy}
 use Rattle.std.specs.FinMap.{FinMap, get}
 use Rattle.gx_rules.specs.Name.{name_cmp, IsFullName}
-use Rattle.gx_store.specs.State.{StoreState, RefState}
+use Rattle.gx_store.specs.State.{StoreState, RefState, IsUnreadable}
 use Rattle.gx_store.specs.declared.target.Target.{Target}
-use Rattle.gx_store.specs.declared.error.What.{What}
 use Rattle.gx_store.specs.declared.error.What.TheVariants as what
-use Rattle.gx_refs.specs.Shown.{stored_name, IsShown, IsShownTarget}
+use Rattle.gx_refs.specs.Shown.{stored_name, IsShownTarget}
 use Rattle.gx_refs.specs.declared.error.RefError.{RefError}
 use Rattle.gx_refs.specs.declared.error.RefError.TheVariants.{Store, NoMemory}
 use Rattle.gx_refs.specs.declared.reference.Reference.{Reference}
@@ -36,14 +35,18 @@ pub record IsReference (space : List ℕ) (told : Option RefState) (name : List 
   pub shown : IsShownTarget space stored reference.target
   pub unpeeled : reference.peeled ≡ None
 
--- The first candidate that means a reference means this one.
-pub record IsMeant (space : List ℕ) (told : Option RefState) (name : List ℕ) (reference : Reference) : Type 0 where
+-- The candidate comes after others that mean nothing.
+pub record IsReached (space : List ℕ) (told : Option RefState) (name candidate : List ℕ) : Type 0 where
   pub before : List (List ℕ)
   pub after : List (List ℕ)
-  pub split : candidates name ≡ before ++ reference.name ∷ after
+  pub split : candidates name ≡ before ++ candidate ∷ after
+  pub others : IfSome told (λ refs. AllByRecursion (MeansNothing space refs.targets) before)
+
+-- The first candidate that means a reference means this one.
+pub record IsMeant (space : List ℕ) (told : Option RefState) (name : List ℕ) (reference : Reference) : Type 0 where
+  pub reached : IsReached space told name reference.name
   pub full : IsFullName reference.name
   pub is : IsReference space told reference.name reference
-  pub others : IfSome told (λ refs. AllByRecursion (MeansNothing space refs.targets) before)
 
 -- What a part of a name means: the reference, or nothing where no candidate means one.
 abbrev pub Means : List ℕ → Option RefState → List ℕ → Option Reference → Type 0
@@ -53,15 +56,15 @@ Means space told name (Some reference) = IsMeant space told name reference
 -- Why it is not known what a candidate means.
 abbrev pub CandidateCauses : List ℕ → StoreState → List ℕ → RefError → Type 0
 CandidateCauses space state name (Store fault) =
-    (fault ≡ what.Name (stored_name space name)) × IsTrue (state.unreadable fault)
+    IsFullName name × IsUnreadable state (what.Name (stored_name space name)) fault
 CandidateCauses space state name NoMemory = Unit {0}
 CandidateCauses space state name error = ⊥
 
--- Why a look-up is refused: a candidate can't be read. Lack of memory needs no cause.
+-- Why a look-up is refused: a candidate is reached that can't be read. Lack of memory needs no cause.
 abbrev pub FindCauses : List ℕ → StoreState → List ℕ → RefError → Type 0
 FindCauses space state name NoMemory = Unit {0}
 FindCauses space state name error =
-    (other : List ℕ) × Contains (candidates name) other × CandidateCauses space state other error
+    (other : List ℕ) × IsReached space state.references name other × CandidateCauses space state other error
 
 -- ---- listings
 

@@ -8,6 +8,7 @@ pub mod Finding
 pub mod Plan
 pub mod Edits
 pub mod Answer
+pub mod Answering
 pub mod EditCauses
 pub mod Prepared
 pub mod EditLaws

@@ -1,6 +1,6 @@
 -- For the private functions alone: which of stored names are kept in a listing.
 use Rattle.std.specs.Prelude.{◌≡◌, ◌⊎◌, ℕ, List, [], ◌∷◌}
-use Rattle.gx_refs.specs.Shown.{IsWithin}
+use Rattle.gx_rules.specs.Namespace.{IsWithin}
 
 -- Of stored names in order those within the namespace are kept, as they are shown.
 abbrev pub KeepsWithin : List ℕ → List (List ℕ) → List (List ℕ) → Type 0

@@ -1,11 +1,12 @@
 -- Which reflogs a change of a reference writes to, and what it writes.
-use Rattle.std.specs.Prelude.{◌≡◌, ℕ, Bool, false, true, ◌||◌, ◌==◌, List, [], ◌∷◌, ◌++◌, map, filter, codes, bytes_eq, nat_eq, unwrap_or, if◌then◌else◌}
+use Rattle.std.specs.Prelude.{◌≡◌, ℕ, Bool, false, true, ◌||◌, List, [], ◌∷◌, ◌++◌, filter, codes, bytes_eq, nat_eq, unwrap_or}
 use Rattle.std.specs.List.{starts_with}
 use Rattle.std.specs.FinMap.{FinMap, get, insert, contains_key}
 use Rattle.gx_hash.specs.declared.oid.ObjectId.{ObjectId}
 use Rattle.gx_rules.specs.Name.{name_cmp}
 use Rattle.gx_object.specs.declared.signature.Signature.{Signature}
 use Rattle.gx_store.specs.State.{StoreState, IsUnreadable}
+use Rattle.gx_store.specs.LogText.{one_line}
 use Rattle.gx_store.specs.declared.log_line.LogLine.{LogLine}
 use Rattle.gx_store.specs.declared.error.What.{What}
 use Rattle.gx_store.specs.declared.error.What.TheVariants as what
@@ -38,16 +39,11 @@ is_due mode logs force name = is_due_where mode force (contains_key logs name) n
 abbrev pub GoesByLog : WriteReflog → Bool → List ℕ → Type 0
 GoesByLog mode force name = (is_due_where mode force false name ≡ false) × (is_due_where mode force true name ≡ true)
 
--- A fault comes only where it goes by the log, and names the name, which can't be read.
-abbrev pub IsLogFault : StoreState → WriteReflog → Bool → List ℕ → What → Type 0
-IsLogFault state mode force name fault = GoesByLog mode force name × IsUnreadable state (what.Name name) fault
+-- A fault names the stored name, which can't be read, and comes only where the shown one goes by the log.
+abbrev pub IsLogFault : StoreState → WriteReflog → Bool → List ℕ → List ℕ → What → Type 0
+IsLogFault state mode force shown name fault = GoesByLog mode force shown × IsUnreadable state (what.Name name) fault
 
--- A newline in a message is a space in the log, whose lines are separated by newlines. (Ours; Git, refs.c,
--- "copy_reflog_msg", draws other white space together too.)
-abbrev pub one_line : List ℕ → List ℕ
-one_line message = map (λ byte. if byte == 10 then 32 else byte) message
-
--- The line has both ids, the identity and the message. (gitrepository-layout(5), "logs")
+-- The line has both ids, the identity and the message, in one line. (gitrepository-layout(5), "logs")
 abbrev pub log_line : ObjectId → ObjectId → Signature → List ℕ → LogLine
 log_line previous new signature message =
     record { previous = previous; new = new; signature = signature; message = one_line message }

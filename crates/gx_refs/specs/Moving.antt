@@ -65,4 +65,4 @@ pub record MovesAlong (mode : WriteReflog) (names : List (List ℕ)) (id : Objec
 -- a fault names one of the names, which can't be read, and whose log decides whether it gets the line
 abbrev pub IsFaultAt : StoreState → WriteReflog → List (List ℕ) → What → Type 0
 IsFaultAt state mode names fault =
-    (name : List ℕ) × (is_among name names ≡ true) × IsLogFault state mode false name fault
+    (name : List ℕ) × (is_among name names ≡ true) × IsLogFault state mode false name name fault

@@ -1,11 +1,11 @@
 -- For the private functions alone: what is known of plans, and why they are refused.
-use Rattle.std.specs.Prelude.{◌≡◌, ◌⊎◌, ℕ, true, List, Option, IfSome, IsTrue, Contains}
+use Rattle.std.specs.Prelude.{◌≡◌, ◌⊎◌, ℕ, List, Option, IfSome, Contains}
 use Rattle.std.specs.List.{AllByRecursion}
 use Rattle.gx_hash.specs.declared.kind.HashKind.{HashKind}
 use Rattle.gx_store.specs.Change.{refs_after}
 use Rattle.gx_store.specs.Kinds.{IsTargetOfKind}
 use Rattle.gx_store.specs.State.{StoreState, RefState}
-use Rattle.gx_refs.specs.Answer.{answers}
+use Rattle.gx_refs.specs.Answering.{answers}
 use Rattle.gx_refs.specs.Changing.{IsPlanOfKind, SomeChangeCauses}
 use Rattle.gx_refs.specs.EditCauses.{OfEdit, EditWayCauses, ExpectedCauses, AreAccepted}
 use Rattle.gx_refs.specs.Edits.{AreChanges, EditsReferences}

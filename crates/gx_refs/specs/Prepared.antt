@@ -1,12 +1,12 @@
 -- What is known of edits that were prepared.
-use Rattle.std.specs.Prelude.{◌≡◌, List, Option, IfSome}
+use Rattle.std.specs.Prelude.{List, Option, IfSome}
 use Rattle.std.specs.List.{AllByRecursion}
 use Rattle.gx_hash.specs.declared.kind.HashKind.{HashKind}
 use Rattle.gx_store.specs.Change.{refs_after, AfterFault}
 use Rattle.gx_store.specs.Kinds.{IsTargetOfKind}
 use Rattle.gx_store.specs.State.{StoreState, RefState, Becomes, HasCause}
 use Rattle.gx_store.specs.declared.change.RefChange.{RefChange}
-use Rattle.gx_refs.specs.Answer.{answers}
+use Rattle.gx_refs.specs.Answer.{AreAnswers}
 use Rattle.gx_refs.specs.EditCauses.{AreAccepted}
 use Rattle.gx_refs.specs.Edits.{AreChanges, EditsReferences}
 use Rattle.gx_refs.specs.Plan.{ArePlans, touches}
@@ -31,7 +31,7 @@ pub record Prepares (terms : Terms) (told : Option RefState) (edits : List RefEd
   pub accepted : AreAccepted terms told plans
   pub changed : AreChanges told terms (touches plans) ready.changes
   pub makes : IfSome told (λ refs. EditsReferences terms plans refs (refs_after ready.changes refs))
-  pub answered : ready.answer ≡ answers plans
+  pub answered : AreAnswers terms.space told plans ready.answer
 
 -- the id that an edit sets is of the kind
 abbrev pub SetsKind : HashKind → Change → Type 0

@@ -1,6 +1,6 @@
 -- References of a namespace: the names that they are stored under, and the names that they are shown by.
 use Rattle.std.specs.Prelude.{◌≡◌, ◌⊎◌, ℕ, List, [], ◌++◌, Option, Some, None}
-use Rattle.gx_rules.specs.Name.{IsFullName}
+use Rattle.gx_rules.specs.Namespace.{IsWithin}
 use Rattle.gx_store.specs.declared.target.Target.{Target}
 use Rattle.gx_store.specs.declared.target.Target.TheVariants as target
 
@@ -17,10 +17,6 @@ stored_name space name = space ++ name
 abbrev pub stored_target : List ℕ → Target → Target
 stored_target space (target.Object id) = target.Object id
 stored_target space (target.Symbolic name) = target.Symbolic (stored_name space name)
-
--- A stored name is within the namespace where a full name follows the prefix.
-abbrev pub IsWithin : List ℕ → List ℕ → List ℕ → Type 0
-IsWithin space stored rest = (stored ≡ stored_name space rest) × IsFullName rest
 
 -- A stored name within the namespace is shown without the prefix, and any other as it is. (gitnamespaces(7))
 abbrev pub IsShown : List ℕ → List ℕ → List ℕ → Type 0

@@ -1,7 +1,8 @@
 //! What a list of edits answers: the edits as they were made.
 ghost use Rattle.std.specs.Prelude.{◌≡◌, IfOk, Some};
 ghost use Rattle.gx_store.specs.declared.target.Target.TheVariants as target;
-ghost use Rattle.gx_refs.specs.Answer.{expecting, change_from, log_alone, answer_at, answer_before, answers_before, answers_along, answers_by, answers};
+ghost use Rattle.gx_refs.specs.Answer.{expecting, change_from, log_alone};
+ghost use Rattle.gx_refs.specs.Answering.{answer_before, answers_before, answers_along, answers_by, answers};
 
 use crate::plan::{Place, Plan};
 use crate::{Change, LogChange, PreviousValue, RefEdit, RefLog};

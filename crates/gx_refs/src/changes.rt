@@ -4,8 +4,7 @@ ghost use Rattle.std.specs.List.{AllByRecursion};
 ghost use Rattle.gx_hash.specs.HashKind.{IsOfKind};
 ghost use Rattle.gx_hash.specs.declared.kind.HashKind.{HashKind};
 ghost use Rattle.gx_store.specs.Kinds.{AreChangesOfKind, IsActOfKind, IsTargetOfKind};
-ghost use Rattle.gx_store.specs.State.{IfFault, IsUnreadable};
-ghost use Rattle.gx_store.specs.declared.error.What.TheVariants as what;
+ghost use Rattle.gx_store.specs.State.{IfFault};
 ghost use Rattle.gx_store.specs.declared.target.Target.TheVariants as target;
 ghost use Rattle.gx_refs.specs.declared.plan.Place.{Place};
 ghost use Rattle.gx_refs.specs.declared.edit.PreviousValue.{PreviousValue};
@@ -13,6 +12,7 @@ ghost use Rattle.gx_refs.specs.declared.edit.Change.TheVariants as change;
 ghost use Rattle.gx_refs.specs.Changing.{IsDue, IsLogChangeBy, IsLogChange, LogCauses, IsSignedBy, IsSigned, AreSigned, IsPlanOfKind, IsChangeOfKind, SomeChangeCauses};
 ghost use Rattle.gx_refs.specs.EditCauses.{ChangeCauses};
 ghost use Rattle.gx_refs.specs.Edits.{end_change, target_change_at, IsChange, AreChanges};
+ghost use Rattle.gx_refs.specs.Log.{IsLogFault};
 ghost use Rattle.gx_refs.specs.Moving.{previous_id};
 ghost use Rattle.gx_refs.specs.Plan.{touched, touches_at, touches_of, touches};
 
@@ -51,7 +51,8 @@ fn target_change(terms: &Terms, plan: &Plan, place: &Place) -> Result<TargetChan
     Ok(TargetChange::Keep)
 }
 
-/// Whether a line of an update is due at a place. The rule goes by the name as it is shown.
+/// Whether a line of an update is due at a place. The rule goes by the name as it is shown, and a fault comes only
+/// where it goes by the log.
 #[tactic(auto, using(crate::proofs::ChangeLemmas::due_anyway, crate::proofs::ChangeLemmas::due_by_log))]
 fn is_due_at<S: References>(
     alloc: Global,
@@ -61,7 +62,7 @@ fn is_due_at<S: References>(
     place: &Place,
 ) -> Result<bool, StoreError>
     ensures due { IfOk result (IsDue (S.state store.now).references mode force place.now) }
-    ensures fault { IfFault result (IsUnreadable (S.state store.now) (what.Name place.now.name)) }
+    ensures fault { IfFault result (IsLogFault (S.state store.now) mode force place.now.shown place.now.name) }
 {
     match mode {
         WriteReflog::Disable => Ok(false),
@@ -75,7 +76,8 @@ fn is_due_at<S: References>(
     }
 }
 
-fn previous_id(hash: HashKind, target: &Option<Target>) -> ObjectId
+/// The id that a line tells as the old one.
+pub(crate) fn previous_id(hash: HashKind, target: &Option<Target>) -> ObjectId
     ensures { result ≡ previous_id hash target.now }
 {
     match target {

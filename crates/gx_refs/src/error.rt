@@ -9,7 +9,8 @@ use gx_store::{StoreError, Target, What};
 use std::alloc::{AllocError, AllocFailed};
 use thiserror::Error;
 
-/// Why a call on references is refused. Names and targets are shown without the namespace.
+/// Why a call on references is refused. Names and targets are shown without the namespace, but for those of `chain`,
+/// which takes a stored name, and of `Store`.
 #[derive(Debug, PartialEq, Eq, Drop, Error)]
 pub enum RefError {
     /// The reference's symbolic targets lead back to one of them.

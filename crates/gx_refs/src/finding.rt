@@ -1,6 +1,7 @@
 //! References by a part of their names.
 ghost use Rattle.std.specs.Prelude.{◌≡◌, ◌<◌, ◌++◌, Some, slice_get, IfOk, IfErr, IfSome, IfNone, option_copied};
 ghost use Rattle.gx_rules.specs.Name.{IsFullName};
+ghost use Rattle.gx_store.specs.Kinds.{IsTargetOfKind};
 ghost use Rattle.gx_refs.specs.Finding.{candidates, MeansNothing, IsReference, Means, FindCauses, CandidateCauses};
 ghost use Rattle.gx_refs.specs.Shown.{prefix_of};
 
@@ -63,6 +64,8 @@ fn reference_at<S: References>(
     ensures none { IfOk result
         (λ found. IfNone found
         (IfSome (S.state store.now).references (λ refs. MeansNothing space.now refs.targets text.now))) }
+    ensures kind { IfOk result
+        (λ found. IfSome found (λ reference. IsTargetOfKind (S.state store.now).hash reference.target)) }
     ensures causes { IfErr result (CandidateCauses space.now (S.state store.now) text.now) }
 {
     let Some(name) = full_name(alloc, text)? else {
@@ -89,6 +92,8 @@ fn find_in<S: References>(
     name: &[u8],
 ) -> Result<Option<Reference>, RefError>
     ensures ok { IfOk result (Means space.now (S.state store.now).references name.now) }
+    ensures kind { IfOk result
+        (λ found. IfSome found (λ reference. IsTargetOfKind (S.state store.now).hash reference.target)) }
     ensures causes { IfErr result (FindCauses space.now (S.state store.now) name.now) }
 {
     for at in 0..CANDIDATES {
@@ -114,6 +119,8 @@ pub fn find<S: References>(
     name: &PartialName,
 ) -> Result<Option<Reference>, RefError>
     ensures ok { IfOk result (Means (prefix_of (option_copied space.entry)) (S.state store.now).references name.now) }
+    ensures kind { IfOk result
+        (λ found. IfSome found (λ reference. IsTargetOfKind (S.state store.now).hash reference.target)) }
     ensures causes { IfErr result (FindCauses (prefix_of (option_copied space.entry)) (S.state store.now) name.now) }
 {
     find_in(alloc, store, &Space::of(space)?, name.as_slice())

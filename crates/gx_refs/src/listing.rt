@@ -1,5 +1,6 @@
 //! Listings of references.
 ghost use Rattle.std.specs.Prelude.{◌≡◌, ◌∷◌, ◌++◌, [], ℕ, List, IfOk, IfErr, IfSome, OnOk, option_copied};
+ghost use Rattle.gx_store.specs.Listing as listing;
 ghost use Rattle.gx_refs.specs.Finding.{IsListing, ListCauses};
 ghost use Rattle.gx_refs.specs.Listed.{KeepsWithin};
 ghost use Rattle.gx_refs.specs.Shown.{prefix_of};
@@ -41,7 +42,8 @@ fn names_within(alloc: Global, space: &Space, stored: &[FullName]) -> Result<Nam
     Ok(Names::from_vec(names))
 }
 
-/// The names of the references that begin with the prefix, in rising order of bytes.
+/// The names of the references that begin with the prefix, in rising order of bytes. Also over a store that tells
+/// nothing there are no others, and they are in that order.
 #[tactic(auto, using(crate::proofs::ListLemmas::told_lists))]
 pub fn iterate<S: References>(
     alloc: Global,
@@ -51,6 +53,7 @@ pub fn iterate<S: References>(
 ) -> Result<Names, RefError>
     ensures ok { IfOk result (λ names. IfSome (S.state store.now).references (λ refs.
         IsListing (prefix_of (option_copied space.entry)) prefix.now refs.targets names)) }
+    ensures listing { IfOk result (listing.IsListing prefix.now) }
     ensures causes { IfErr result (ListCauses (S.state store.now)) }
 {
     let under = Space::of(space)?;

@@ -2,7 +2,8 @@
 
 ghost use Rattle.std.specs.Prelude.{◌≡◌, Bool, IfOk, IfSome};
 ghost use Rattle.gx_store.specs.State.{IfFault};
-ghost use Rattle.gx_refs.specs.Log.{is_made, is_due, is_due_where, IsLogFault, one_line, log_line};
+ghost use Rattle.gx_store.specs.LogText.{one_line};
+ghost use Rattle.gx_refs.specs.Log.{is_made, is_due, is_due_where, IsLogFault, log_line};
 
 use gx_hash::{Bytes, NoMemory, ObjectId};
 use gx_object::Signature;
@@ -13,11 +14,11 @@ use std::alloc::Global;
 /// Which logs are written: the setting `core.logAllRefUpdates`.
 #[derive(Clone, Copy, Debug, PartialEq, Eq)]
 pub enum WriteReflog {
-    /// Those of `HEAD`, branches, remote branches and notes, and each that is there.
+    /// Those of `HEAD`, branches, remote branches and notes, and each that is there or forced.
     Normal,
     /// All.
     Always,
-    /// None, not even one that is there.
+    /// No line is written, not even to a log that is there.
     Disable,
 }
 
@@ -42,7 +43,7 @@ pub fn is_due<S: References>(
     ensures due { IfOk result (λ due. IfSome (S.state store.now).references (λ refs.
         due ≡ is_due mode refs.logs force name.now)) }
     ensures untold { IfOk result (λ due. (has_log : Bool) × (due ≡ is_due_where mode force has_log name.now)) }
-    ensures fault { IfFault result (IsLogFault (S.state store.now) mode force name.now) }
+    ensures fault { IfFault result (IsLogFault (S.state store.now) mode force name.now name.now) }
 {
     match mode {
         WriteReflog::Disable => Ok(false),
@@ -61,7 +62,7 @@ fn is_due_normally<S: References>(
         due ≡ is_due WriteReflog.Normal refs.logs force name.now)) }
     ensures untold { IfOk result
         (λ due. (has_log : Bool) × (due ≡ is_due_where WriteReflog.Normal force has_log name.now)) }
-    ensures fault { IfFault result (IsLogFault (S.state store.now) WriteReflog.Normal force name.now) }
+    ensures fault { IfFault result (IsLogFault (S.state store.now) WriteReflog.Normal force name.now name.now) }
 {
     if force || is_made_normally(name.as_slice()) {
         return Ok(true);

@@ -9,8 +9,9 @@ ghost use Rattle.gx_refs.specs.Chain.{AreDistinct};
 ghost use Rattle.gx_refs.specs.Log.{is_due, IsLogFault, log_line};
 ghost use Rattle.gx_refs.specs.Moving.{previous_id, moved, change_at, IsChangeAt, MovesAlong, IsFaultAt};
 
+use crate::changes::previous_id;
 use crate::{Chain, WriteReflog, is_due, log_line};
-use gx_hash::{HashKind, NoMemory, ObjectId};
+use gx_hash::{NoMemory, ObjectId};
 use gx_object::Signature;
 use gx_rules::FullName;
 use gx_store::{LogAct, LogLine, RefChange, References, StoreError, Target, TargetChange};
@@ -75,16 +76,6 @@ fn changes_along<S: References>(
     Ok(changes)
 }
 
-/// The id that a line tells as the old one.
-fn previous_id(hash: HashKind, target: &Option<Target>) -> ObjectId
-    ensures { result ≡ previous_id hash target.now }
-{
-    match target {
-        Some(Target::Object(id)) => *id,
-        _ => ObjectId::null(hash),
-    }
-}
-
 /// The change of one name, with the line where one is due.
 fn change_at<S: References>(
     alloc: Global,
@@ -97,7 +88,7 @@ fn change_at<S: References>(
     ensures change { IfOk result (λ change. IsChangeAt mode name.now target line.now change) }
     ensures told { IfOk result (λ change. IfSome (S.state store.now).references (λ refs.
         change ≡ change_at (is_due mode refs.logs false name.now) name.now target line.now)) }
-    ensures fault { IfFault result (IsLogFault (S.state store.now) mode false name.now) }
+    ensures fault { IfFault result (IsLogFault (S.state store.now) mode false name.now name.now) }
 {
     let log = if is_due(alloc, store, mode, name, false)? {
         LogAct::Append(line.try_clone()?)

@@ -1,9 +1,12 @@
 //! Names under a namespace.
 ghost use Rattle.std.specs.Prelude.{◌≡◌, ℕ, List, IfOk, IfSome, IfNone, option_copied};
-ghost use Rattle.gx_refs.specs.Shown.{prefix_of, stored_name, stored_target, IsWithin, IsShown, IsShownTarget, IsShownFound};
+ghost use Rattle.gx_hash.specs.declared.kind.HashKind.{HashKind};
+ghost use Rattle.gx_rules.specs.Namespace.{IsWithin};
+ghost use Rattle.gx_store.specs.Kinds.{IsTargetOfKind};
+ghost use Rattle.gx_refs.specs.Shown.{prefix_of, stored_name, stored_target, IsShown, IsShownTarget, IsShownFound};
 
 use gx_hash::NoMemory;
-use gx_rules::{FullName, NameError, Namespace};
+use gx_rules::{FullName, Namespace};
 use gx_store::Target;
 use std::alloc::Global;
 use std::marker::Model;
@@ -65,8 +68,7 @@ impl Space {
     }
 }
 
-/// What follows the prefix in a stored name, if that is a full name.
-#[tactic(auto, using(crate::proofs::ShownLemmas::stripping))]
+/// The name in the namespace of a reference that is stored under that name, if it has one.
 pub(crate) fn within(
     alloc: Global,
     space: &Space,
@@ -75,13 +77,9 @@ pub(crate) fn within(
     ensures some { IfOk result (λ found. IfSome found (IsWithin space.now name.now)) }
     ensures none { IfOk result (λ found. IfNone found ((rest : List ℕ) → ¬ IsWithin space.now name.now rest)) }
 {
-    let Some(rest) = name.as_slice().strip_prefix(space.prefix()) else {
-        return Ok(None);
-    };
-    match FullName::new(alloc, rest) {
-        Ok(short) => Ok(Some(short)),
-        Err(NameError::NoMemory) => Err(NoMemory),
-        Err(_) => Ok(None),
+    match &space.namespace {
+        Some(namespace) => namespace.strip(alloc, name),
+        None => Ok(Some(name.try_clone()?)),
     }
 }
 
@@ -101,7 +99,8 @@ pub(crate) fn shown_target(
     space: &Space,
     target: &Target,
 ) -> Result<Target, NoMemory>
-    ensures { IfOk result (IsShownTarget space.now target.now) }
+    ensures shown { IfOk result (IsShownTarget space.now target.now) }
+    ensures kind { (hash : HashKind) → IsTargetOfKind hash target.now → IfOk result (IsTargetOfKind hash) }
 {
     match target {
         Target::Object(id) => Ok(Target::Object(*id)),

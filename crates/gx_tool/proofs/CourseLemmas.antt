@@ -8,7 +8,7 @@ use Rattle.std.proofs.lemmas.Grind.{flat_map-append}
 use Rattle.gx_tool.specs.declared.reply.Reply.{Reply}
 use Rattle.gx_tool.specs.declared.reply.Reply.TheVariants.{Accepted, Refused}
 use Rattle.gx_tool.specs.declared.answer.Answer.{Answer}
-use Rattle.gx_tool.specs.declared.answer.Answer.TheVariants.{Id, Log}
+use Rattle.gx_tool.specs.declared.answer.Answer.TheVariants.{Id, Log, Name, References}
 use Rattle.gx_tool.specs.declared.status.Status.{Status}
 use Rattle.gx_tool.specs.declared.status.Status.TheVariants.{Done, Refusals, Malformed, ReadFault, WriteFault, NoMemory, StoreFault, TooLong}
 use Rattle.gx_hash.specs.declared.kind.HashKind.{HashKind}
@@ -24,7 +24,7 @@ use Rattle.gx_script.specs.Reading.{Reading, Moves, Stays, Overruns, BadAt, Anyt
 use Rattle.gix.specs.Held.{Held, HeldTold}
 use Rattle.gx_tool.specs.Machine.{Run, IsReply}
 use Rattle.gx_tool.specs.Serving.{Serves, ServesAll, Stops}
-use Rattle.gx_tool.specs.Reply.{texts, reply_text, answer_text, log_text, log_line_text, count_text, all_accepted, is_accepted}
+use Rattle.gx_tool.specs.Reply.{texts, reply_text, answer_text, log_text, log_line_text, count_text, all_accepted, is_accepted, reference_text}
 use Rattle.gx_tool.specs.declared.executing.ExecuteError.{ExecuteError}
 use Rattle.gx_tool.specs.declared.executing.ExecuteError.TheVariants as no_reply
 use Rattle.gx_store.specs.declared.error.What.{What}
@@ -45,14 +45,14 @@ pub record SoFar (limit : ℕ) (start now : Moment) (reading : Reading) (accepte
   pub source_later : start.source_faults ≤ now.source_faults
   pub sink_later : start.sink_faults ≤ now.sink_faults
 
-run_more : (old mid new : Held) (requests : List Request) (replies : List Reply) (request : Request) (reply : Reply) → ServesAll old requests replies mid → Serves mid request reply new → ServesAll old (requests ++ request ∷ []) (replies ++ reply ∷ []) new
+pub run_more : (old mid new : Held) (requests : List Request) (replies : List Reply) (request : Request) (reply : Reply) → ServesAll old requests replies mid → Serves mid request reply new → ServesAll old (requests ++ request ∷ []) (replies ++ reply ∷ []) new
 unfolding ServesAll
 run_more old mid new [] [] request reply h s = (new, subst (λ o. Serves o request reply new) h s, refl)
 run_more old mid new [] (r ∷ rs) request reply h s = absurd h
 run_more old mid new (q ∷ qs) [] request reply h s = absurd h
 run_more old mid new (q ∷ qs) (r ∷ rs) request reply h s = (h.0, h.1, run_more h.0 mid new qs rs request reply h.2 s)
 
-run_none : (held : Held) → ServesAll held [] [] held
+pub run_none : (held : Held) → ServesAll held [] [] held
 unfolding ServesAll
 run_none held = refl
 
@@ -310,6 +310,8 @@ log_some (Some lines) none = after_some (flat_map log_line_text lines) (count_te
 answer_some : (answer : Answer) → answer_text answer ≢ []
 answer_some (Id id) none = cc
 answer_some (Log lines) none = log_some lines none
+answer_some (References list) none = after_some (flat_map reference_text list) (count_text (length list)) (λ empty. cc) none
+answer_some (Name name) none = cc
 
 reply_some : (reply : Reply) → reply_text reply ≢ []
 unfolding reply_text

@@ -1,5 +1,5 @@
 -- How a run without faults ends.
-use Rattle.std.proofs.Common.{◌≡◌, ◌∙◌, sym, ap, refl, subst, ℕ, ◌≤◌, List, [], ◌∷◌, ◌++◌, length, Option, Some, None, arith, length-append, ◌⊎◌, inl, inr, false}
+use Rattle.std.proofs.Common.{◌≡◌, ◌∙◌, sym, ap, refl, subst, ℕ, ◌≤◌, List, [], ◌∷◌, ◌++◌, length, Option, Some, None, arith, length-append, ◌⊎◌, inl, inr, false, Bool}
 use Rattle.std.specs.List.{flat_map}
 use Rattle.gx_store.specs.State.{StoreState}
 use Rattle.gx_store.specs.Faults.{Rose}
@@ -8,6 +8,7 @@ use Rattle.gx_store.specs.declared.error.What.{What}
 use Rattle.gix.specs.Held.{Held}
 use Rattle.gix.specs.Meaning.{Stays}
 use Rattle.gx_script.specs.declared.request.Request.{Request}
+use Rattle.gx_script.specs.Reading.{Reading}
 use Rattle.gx_script.specs.Spelling.{spelling}
 use Rattle.gx_tool.specs.declared.executing.ExecuteError.TheVariants as no_reply
 use Rattle.gx_tool.specs.declared.reply.Reply.{Reply}
@@ -20,14 +21,15 @@ use Rattle.gx_tool.specs.Completeness.{IsFaultless}
 use Rattle.gx_tool.specs.Course.{Moment, Answers, Ends, code, taken_count}
 use Rattle.gx_tool.specs.Serving.{call_of, Gives, Serves, ServesAll, Stops}
 use Rattle.gx_tool.proofs.CallLemmas.{Lawful}
+use Rattle.gx_tool.proofs.CourseLemmas.{SoFar}
 use Rattle.gx_tool.proofs.FormLemmas.{lawful}
 use Rattle.gx_tool.proofs.OutsideLemmas.{rose_before}
 
 stays_same : (old new : StoreState) → new ≡ old → Stays old new
-stays_same old new same = subst (λ n. Stays old n) (sym same) (record { parts = refl; later = omega arith })
+stays_same old new same = subst (λ n. Stays old n) (sym same) (record { kind = refl; parts = refl; later = omega arith })
 
 stays_then : (old mid new : StoreState) → Stays old mid → Stays mid new → Stays old new
-stays_then old mid new p q = record { parts = q.parts ∙ p.parts; later = omega (arith, p.later, q.later) }
+stays_then old mid new p q = record { kind = q.kind ∙ p.kind; parts = q.parts ∙ p.parts; later = omega (arith, p.later, q.later) }
 
 given_stays : (c : Call) → Lawful c → (old : Held) (reply : Reply) (new : Held) → Gives c old reply new → Stays old.store new.store
 given_stays c l old (Accepted answer) new h = l.lawful.stays old.settings old.store new.store h.made h.makes
@@ -43,6 +45,10 @@ all_stay laws old [] [] new h = stays_same old.store new.store (ap (λ (held : H
 all_stay laws old [] (reply ∷ replies) new h = absurd h
 all_stay laws old (request ∷ requests) [] new h = absurd h
 all_stay laws old (request ∷ requests) (reply ∷ replies) new h = stays_then old.store h.0.store new.store (served_stays laws request old reply h.0 h.1) (all_stay laws h.0 requests replies new h.2)
+
+-- the reader's ids are of the kind of the store as it is now
+pub kind_now : CallLaws → (limit : ℕ) (start now : Moment) (reading : Reading) (accepted : Bool) → SoFar limit start now reading accepted → reading.hash ≡ now.held.store.hash
+kind_now laws limit start now reading accepted s = s.kind ∙ sym (all_stay laws start.held s.requests s.replies now.held s.course.run).kind
 
 stopped_fault : CallLaws → (request : Request) (old new : Held) (fault : What) → ((part : What) → old.store.unreadable part ≡ false) → Stops old request new (no_reply.Store fault) → Rose old.store.faults new.store.faults
 unfolding Stops

@@ -4,9 +4,15 @@ pub mod CourseLemmas
 pub mod EndLemmas
 pub mod FaultlessLemmas
 pub mod FormLemmas
+pub mod GeneratingLemmas
 pub mod LawLemmas
 pub mod LogForm
 pub mod MachineLemmas
+pub mod OutcomeLemmas
 pub mod OutsideLemmas
+pub mod ReferenceForms
+pub mod RefsForm
+pub mod SummaryLemmas
 pub mod UnservedForm
 pub mod ValidLemmas
+pub mod WordLemmas

@@ -1,5 +1,6 @@
 -- The call that a request asks for, and how its outcome is replied.
 use Rattle.std.specs.Prelude.{◌≡◌, Result, Ok, Err}
+use Rattle.gx_hash.specs.declared.kind.HashKind.{HashKind}
 use Rattle.gix.specs.declared.settings.Settings.{Settings}
 use Rattle.gix.specs.Held.{Held}
 use Rattle.gix.specs.Meaning.{Meaning, Means}
@@ -15,8 +16,8 @@ pub record Call : Type 1 where
   pub Made : Type 0
   pub Error : Type 0
   pub meaning : Meaning Made Error
-  -- what it needs of the request
-  pub needs : Type 0
+  -- what it needs of the request, where ids are of this kind
+  pub needs : HashKind → Type 0
   -- in which states it is sure to be accepted
   pub valid : Settings → State → Type 0
   -- what is replied to Ok

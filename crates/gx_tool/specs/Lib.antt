@@ -3,9 +3,15 @@ pub mod CallLaws
 pub mod CommitForm
 pub mod Completeness
 pub mod Course
+pub mod Generating
+pub mod Generator
 pub mod LogForm
 pub mod Machine
+pub mod Progress
 pub mod ReadsOnce
+pub mod ReferenceForms
+pub mod RefsForm
 pub mod Reply
 pub mod Serving
 pub mod UnservedForm
+pub mod Words

@@ -11,11 +11,12 @@ use Rattle.gx_store.specs.LogText.{line_bytes}
 use Rattle.gx_store.specs.declared.log_line.LogLine.{LogLine}
 use Rattle.gx_store.specs.declared.target.Target.{Target}
 use Rattle.gx_store.specs.declared.target.Target.TheVariants.{Object, Symbolic}
+use Rattle.gx_refs.specs.declared.reference.Reference.{Reference}
 use Rattle.gx_tool.specs.declared.refusal.Refusal.{Refusal}
-use Rattle.gx_tool.specs.declared.refusal.Refusal.TheVariants.{Unsupported, Find, Kind, Decode, EmptyComponent, Filename, Missing, Unwritable, Cycle, Depth, MustExist, MustNotExist, OutOfDate, Conflict}
+use Rattle.gx_tool.specs.declared.refusal.Refusal.TheVariants.{Unsupported, Find, Kind, Decode, EmptyComponent, Filename, Missing, Unwritable, Cycle, Depth, MustExist, MustNotExist, OutOfDate, Conflict, RelativePath, Duplicate, NoCommitter, BadName}
 use Rattle.gx_tool.specs.declared.reply.Reply.{Reply}
 use Rattle.gx_tool.specs.declared.answer.Answer.{Answer}
-use Rattle.gx_tool.specs.declared.answer.Answer.TheVariants.{Id, Log}
+use Rattle.gx_tool.specs.declared.answer.Answer.TheVariants.{Id, Log, Name, References}
 use Rattle.gx_tool.specs.declared.reply.Reply.TheVariants.{Accepted, Refused}
 
 -- an id in hex digits, or a name after an @
@@ -57,6 +58,10 @@ refusal_text (MustNotExist name actual) = codes "must-not-exist" ++ (32 ∷ name
 refusal_text (OutOfDate name expected actual) =
     codes "out-of-date" ++ (32 ∷ name) ++ (32 ∷ target_text expected) ++ 32 ∷ target_text actual
 refusal_text (Conflict name other) = codes "conflict" ++ (32 ∷ name) ++ 32 ∷ other
+refusal_text RelativePath = codes "relative-path"
+refusal_text (Duplicate name) = codes "duplicate" ++ 32 ∷ name
+refusal_text NoCommitter = codes "no-committer"
+refusal_text BadName = codes "name"
 
 -- the line of a reply that shows a line of a log
 abbrev pub log_line_text : LogLine → List ℕ
@@ -71,10 +76,20 @@ abbrev pub log_text : Option (List LogLine) → List ℕ
 log_text None = codes "ok none" ++ 10 ∷ []
 log_text (Some lines) = flat_map log_line_text lines ++ count_text (length lines)
 
+-- the line of a reply that shows a reference
+abbrev pub reference_text : Reference → List ℕ
+reference_text reference = codes "ref " ++ reference.name ++ (32 ∷ target_text reference.target) ++ 10 ∷ []
+
+-- References are told one by one, and then their count.
+abbrev pub references_text : List Reference → List ℕ
+references_text list = flat_map reference_text list ++ count_text (length list)
+
 -- An answer ends with a line that begins with `ok`. (Ours; docs/SCRIPT.md.)
 abbrev pub answer_text : Answer → List ℕ
 answer_text (Id id) = codes "ok " ++ hex_of id ++ 10 ∷ []
 answer_text (Log lines) = log_text lines
+answer_text (Name name) = codes "ok " ++ name ++ 10 ∷ []
+answer_text (References list) = references_text list
 
 -- A reply is an answer, or a line with `no` and why not. (Ours; docs/SCRIPT.md.)
 unfoldable pub reply_text : Reply → List ℕ

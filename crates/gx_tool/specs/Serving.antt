@@ -11,12 +11,17 @@ use Rattle.gx_tool.specs.declared.reply.Reply.TheVariants.{Accepted, Refused}
 use Rattle.gx_tool.specs.Call.{Call}
 use Rattle.gx_tool.specs.CommitForm.{commit_call}
 use Rattle.gx_tool.specs.LogForm.{log_call}
+use Rattle.gx_tool.specs.ReferenceForms.{delete_call, ref_call}
+use Rattle.gx_tool.specs.RefsForm.{refs_call}
 use Rattle.gx_tool.specs.UnservedForm.{unserved_call}
 
 -- The call that a request asks for. (Ours; docs/SCRIPT.md.)
 unfoldable pub call_of : Request → Call
 call_of (form.Commit asked) = commit_call asked
 call_of (form.Log name) = log_call name
+call_of (form.Refs prefix) = refs_call prefix
+call_of (form.Ref asked) = ref_call asked
+call_of (form.Delete name expect) = delete_call name expect
 call_of request = unserved_call
 
 -- A call is accepted with this answer: it was made, and is all that changed.

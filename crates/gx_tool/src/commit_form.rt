@@ -17,7 +17,7 @@ use gx_store::Store;
 use std::alloc::Global;
 
 /// What is replied to a commit that is refused, or that it gets no reply.
-fn commit_tells(refusal: CommitEditsError) -> Result<Refusal, ExecuteError>
+pub(crate) fn commit_tells(refusal: CommitEditsError) -> Result<Refusal, ExecuteError>
     ensures { result ≡ commit_tells refusal }
 {
     Ok(match refusal {

@@ -1,15 +1,18 @@
 //! How a request is run.
 
 ghost use Rattle.std.specs.Prelude.{◌≡◌, IfOk, IfErr};
-ghost use Rattle.gix.specs.Repository.{held_by};
+ghost use Rattle.gix.specs.Repository.{held_by, store_of};
 ghost use Rattle.gx_tool.specs.Call.{Executes, refused};
 ghost use Rattle.gx_tool.specs.LogForm.{store_tells};
 ghost use Rattle.gx_tool.specs.Machine.{IsReply};
 ghost use Rattle.gx_tool.specs.Serving.{Stops, call_of};
 
 use crate::commit_form::commit;
+use crate::delete_form::delete;
 use crate::laws::call_laws;
 use crate::log_form::log;
+use crate::ref_form::set_reference;
+use crate::refs_form::refs;
 use crate::refusal::Refusal;
 use crate::reply::Reply;
 use gix::Repository;
@@ -55,12 +58,15 @@ fn call<S: Store>(
     repo: &mut Repository<S>,
     request: &Request,
 ) -> Result<Reply, ExecuteError>
-    requires { (call_of request.now).needs }
+    requires { (call_of request.now).needs (S.state (store_of repo.old)).hash }
     ensures { Executes (call_of request.now) (held_by S.state repo.old) result (held_by S.state repo.new) }
 {
     match request {
         Request::Commit(asked) => commit(alloc, repo, asked),
         Request::Log(name) => log(alloc, repo, name),
+        Request::Refs(prefix) => refs(alloc, repo, prefix),
+        Request::Ref(asked) => set_reference(alloc, repo, asked),
+        Request::Delete { name, expect } => delete(alloc, repo, name, expect),
         _ => Ok(Reply::Refused(Refusal::Unsupported)),
     }
 }
@@ -72,7 +78,7 @@ pub fn execute<S: Store>(
     _now: Time,
     request: &Request,
 ) -> Result<Reply, ExecuteError>
-    requires { (call_of request.now).needs }
+    requires { (call_of request.now).needs (S.state (store_of repo.old)).hash }
     ensures reply { IfOk result (λ reply. IsReply (held_by S.state repo.old) request.now reply
         (held_by S.state repo.new)) }
     ensures stops { IfErr result (Stops (held_by S.state repo.old) request.now (held_by S.state repo.new)) }

@@ -27,6 +27,10 @@ pub(crate) fn call_laws()
     gix::laws::commit_edits_is_lawful();
     gix::laws::valid_commit_is_not_refused();
     gix::laws::log_is_lawful();
+    gix::laws::references_is_lawful();
+    gix::laws::refs_is_a_relative_path();
+    gix::laws::edit_references_is_lawful();
+    gix::laws::edits_that_may_be_made_are_not_refused();
 }
 
 /// The number is 8 exactly where a byte past the limit was taken.

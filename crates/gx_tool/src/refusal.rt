@@ -4,6 +4,7 @@ ghost use Rattle.std.specs.Prelude.{◌≡◌, ◌++◌, ◌∷◌, OnOk};
 ghost use Rattle.gx_hash.specs.ObjectId.{hex_of};
 ghost use Rattle.gx_tool.specs.Reply.{target_text, field_text, refusal_text};
 
+use crate::target::{push_id, push_target};
 use gx_hash::{Bytes, NoMemory, ObjectId};
 use gx_object::{EntryKind, Field, Kind};
 use gx_rules::FullName;
@@ -69,6 +70,16 @@ pub enum Refusal {
         name: FullName,
         other: FullName,
     },
+    /// The prefix of a listing is no relative path.
+    RelativePath,
+    /// Two edits share the name.
+    Duplicate {
+        name: FullName,
+    },
+    /// A line of a log is due, and nobody signs it.
+    NoCommitter,
+    /// What should be a name is none.
+    BadName,
 }
 
 fn field_name(field: Field) -> &'static [u8]
@@ -98,28 +109,6 @@ fn push_field(out: &mut Vec<u8>, bytes: &[u8]) -> Result<(), NoMemory>
     out.push(b' ')?;
     out.extend_from_slice(bytes)?;
     Ok(())
-}
-
-/// Appends a space and the id's digits.
-fn push_id(out: &mut Vec<u8>, id: &ObjectId) -> Result<(), NoMemory>
-    ensures ok { OnOk result (out.new.items ≡ out.old.items ++ 32 ∷ hex_of id.now) }
-{
-    out.push(b' ')?;
-    id.push_hex(out)
-}
-
-/// Appends a space and the target.
-fn push_target(out: &mut Vec<u8>, target: &Target) -> Result<(), NoMemory>
-    ensures ok { OnOk result (out.new.items ≡ out.old.items ++ 32 ∷ target_text target.now) }
-{
-    match target {
-        Target::Object(id) => push_id(out, id),
-        Target::Symbolic(name) => {
-            out.extend_from_slice(b" @")?;
-            out.extend_from_slice(name.as_slice())?;
-            Ok(())
-        }
-    }
 }
 
 /// Appends a word and a field.
@@ -222,5 +211,9 @@ pub(crate) fn push_refusal(out: &mut Vec<u8>, refusal: &Refusal) -> Result<(), N
             actual,
         } => push_out_of_date(out, name, expected, actual),
         Refusal::Conflict { name, other } => push_conflict(out, name, other),
+        Refusal::RelativePath => Ok(out.extend_from_slice(b"relative-path")?),
+        Refusal::Duplicate { name } => push_with(out, b"duplicate", name.as_slice()),
+        Refusal::NoCommitter => Ok(out.extend_from_slice(b"no-committer")?),
+        Refusal::BadName => Ok(out.extend_from_slice(b"name")?),
     }
 }

@@ -1,14 +1,18 @@
 //! How a script is run.
 
-ghost use Rattle.std.specs.Prelude.{◌≡◌, ◌≤◌, ◌↔◌, ◌^◌, OnOk, IfErr};
+ghost use Rattle.std.specs.Prelude.{◌≡◌, ◌≤◌, ◌↔◌, ◌^◌, ℕ, OnOk, IfErr};
 ghost use Rattle.gx_store.specs.Faults.{Rose};
 ghost use Rattle.gx_store.specs.Outside.{Writes};
 ghost use Rattle.gx_tool.specs.Course.{Served, WritesFront, IsApply, Answers, moment_of};
+ghost use Rattle.gx_tool.specs.Generating.{IsGenerated, scene_of};
+ghost use Rattle.gx_tool.specs.Words.{AreAllowed, IsGenerate};
 
 use crate::executing::{ExecuteError, execute};
+use crate::generating::generate;
+use crate::laws::call_laws;
 use crate::reply::print_reply;
 use crate::status::Status;
-use crate::words::parse_words;
+use crate::words::{Job, parse_words};
 use gix::Repository;
 use gx_object::Time;
 use gx_script::{ScriptError, ScriptReader};
@@ -19,7 +23,7 @@ use std::alloc::Global;
 const SCRIPT_LIMIT: u64 = 1 << 40;
 
 /// Writes all of the bytes. After an `Err` a front of them is written.
-fn write_all<O: Sink>(output: &mut O, bytes: &[u8]) -> Result<(), SinkError>
+pub(crate) fn write_all<O: Sink>(output: &mut O, bytes: &[u8]) -> Result<(), SinkError>
     ensures ok { OnOk result (Writes (O.written output.old) (O.written output.new) bytes.now) }
     ensures err { IfErr result (λ e. WritesFront (O.written output.old) (O.written output.new) bytes.now) }
     ensures later { O.faults output.old ≤ O.faults output.new }
@@ -47,6 +51,7 @@ fn serve<S: Store, I: Source, O: Sink>(
         (moment_of S.state I.left I.faults O.written O.faults repo.new input.new output.new)
         result }
 {
+    call_laws();
     let mut reader = match ScriptReader::new(alloc, repo.object_hash(), limit) {
         Ok(reader) => reader,
         Err(_) => return Status::NoMemory,
@@ -84,7 +89,8 @@ fn serve<S: Store, I: Source, O: Sink>(
     }
 }
 
-/// Reads a script of at most `limit` bytes where the words ask for it, and answers the number of the run's status.
+/// Reads a script of at most `limit` bytes where the words ask for it, or makes commits of the generator, and answers
+/// the number of the run's status.
 pub fn run_limited<S: Store, I: Source, O: Sink>(
     alloc: Global,
     words: &[String],
@@ -94,21 +100,26 @@ pub fn run_limited<S: Store, I: Source, O: Sink>(
     output: &mut O,
     limit: u64,
 ) -> u8
-    ensures bad_words { (result ≡ 6) ↔ (IsApply words.now → ⊥) }
-    ensures untouched { (IsApply words.now → ⊥) → (repo.new ≡ repo.old) × (input.new ≡ input.old)
+    ensures bad_words { (result ≡ 6) ↔ (AreAllowed words.now → ⊥) }
+    ensures untouched { (AreAllowed words.now → ⊥) → (repo.new ≡ repo.old) × (input.new ≡ input.old)
         × (output.new ≡ output.old) }
     ensures answers { IsApply words.now → Answers limit
         (moment_of S.state I.left I.faults O.written O.faults repo.old input.old output.old)
         (moment_of S.state I.left I.faults O.written O.faults repo.new input.new output.new)
         result }
+    ensures generates { (count : ℕ) → IsGenerate count words.now → (input.new ≡ input.old) × IsGenerated count
+        (scene_of S.state O.written O.faults repo.old output.old)
+        (scene_of S.state O.written O.faults repo.new output.new) result }
 {
     match parse_words(words) {
         Err(_) => Status::BadWords.code(),
-        Ok(_) => serve(alloc, limit, now, repo, input, output).code(),
+        Ok(Job::Apply) => serve(alloc, limit, now, repo, input, output).code(),
+        Ok(Job::Generate(count)) => generate(alloc, count, repo, output).code(),
     }
 }
 
-/// Reads a script of at most 2^40 bytes where the words ask for it, and answers the number of the run's status.
+/// Reads a script of at most 2^40 bytes where the words ask for it, or makes commits of the generator, and answers the
+/// number of the run's status.
 ///
 /// ```
 /// let mut repo = Repository::new(Memory::new(alloc, HashKind::Sha1)?, Settings::new());
@@ -124,13 +135,16 @@ pub fn run<S: Store, I: Source, O: Sink>(
     input: &mut I,
     output: &mut O,
 ) -> u8
-    ensures bad_words { (result ≡ 6) ↔ (IsApply words.now → ⊥) }
-    ensures untouched { (IsApply words.now → ⊥) → (repo.new ≡ repo.old) × (input.new ≡ input.old)
+    ensures bad_words { (result ≡ 6) ↔ (AreAllowed words.now → ⊥) }
+    ensures untouched { (AreAllowed words.now → ⊥) → (repo.new ≡ repo.old) × (input.new ≡ input.old)
         × (output.new ≡ output.old) }
     ensures answers { IsApply words.now → Answers (2 ^ 40)
         (moment_of S.state I.left I.faults O.written O.faults repo.old input.old output.old)
         (moment_of S.state I.left I.faults O.written O.faults repo.new input.new output.new)
         result }
+    ensures generates { (count : ℕ) → IsGenerate count words.now → (input.new ≡ input.old) × IsGenerated count
+        (scene_of S.state O.written O.faults repo.old output.old)
+        (scene_of S.state O.written O.faults repo.new output.new) result }
 {
     run_limited(alloc, words, now, repo, input, output, SCRIPT_LIMIT)
 }

@@ -1,7 +1,7 @@
 -- A walk under way lists what is next.
-use Rattle.std.proofs.Common.{◌≡◌, ℕ, ◌≤◌, ℤ, ◌<ℤ◌, true, false, List, [], ◌∷◌, ◌++◌, length, take, sym, ap, ◌∙◌, subst, arith, ◌⊎◌, inl, inr, Some, None, IsSome, append-nil}
+use Rattle.std.proofs.Common.{◌≡◌, ℕ, ◌≤◌, ℤ, ◌<ℤ◌, true, false, not, List, [], ◌∷◌, ◌++◌, length, take, sym, ap, ◌∙◌, subst, arith, ◌⊎◌, inl, inr, Some, None, IsSome, append-nil}
 use Rattle.std.specs.List.{slice_get}
-use Rattle.std.proofs.lemmas.Bool.{or_cases, or_right, or_parts, or_from, false≢true, both_ways, false_from_ne_true}
+use Rattle.std.proofs.lemmas.Bool.{or_cases, or_right, or_parts, or_from, and_parts, not-true, false≢true, both_ways, false_from_ne_true}
 use Rattle.std.proofs.lemmas.Int.{ints}
 use Rattle.std.proofs.lemmas.List.{flat_map_more, take-append-le}
 use Rattle.gx_hash.specs.declared.oid.ObjectId.{ObjectId}
@@ -9,7 +9,7 @@ use Rattle.gx_hash.specs.ObjectIds.{has_id}
 use Rattle.gx_walk.specs.History.{History, time_of}
 use Rattle.gx_walk.specs.Walk.{PrecedesByTime, Precedes, IsInTime}
 use Rattle.gx_walk.specs.Rank.{rank_of, rank_by_time}
-use Rattle.gx_walk.specs.Simple.{answer_at, follow, mentioned, AllAsked, IsAdmitted, IsHidden, IsNamed, IsNextOf, BeginsWalkOf, IsWhole}
+use Rattle.gx_walk.specs.Simple.{answer_at, follow, mentioned, AllAsked, AskedWithin, IsAdmitted, IsHidden, IsNamed, IsNextOf, BeginsWalkOf, IsWhole}
 use Rattle.gx_walk.specs.Frontier.{is_excluded, Admits, IsFrontier, IsBest, IsSpent, IsEmpty, IsReadFor}
 use Rattle.gx_walk.specs.Course.{AreSets, IsUnderWay}
 use Rattle.gx_walk.specs.declared.commit.course.Course.{Course}
@@ -65,6 +65,12 @@ module _ (history : History) (options : WalkOptions) (sets : Sets) (are : AreSet
 
   pub all_asked_from : (listed : List ObjectId) (f : Frontier) → IsFrontier history options.sorting (is_excluded sets) (mentioned history options listed) listed f → AllAsked history options f.asked.items listed
   all_asked_from listed f it id among clear shown = it.answered id among (inside id clear shown)
+
+  pub asked_within_from : (listed done : List ObjectId) (f : Frontier) → IsFrontier history options.sorting (is_excluded sets) (mentioned history options listed) done f → AskedWithin history options f.asked.items listed
+  asked_within_from listed done f it id some =
+      let parts = and_parts (not (is_excluded sets id)) (has_id (mentioned history options listed) id) (sym (it.seen_is id) ∙ it.asked_in id some) in
+      let (clear, shown) = outside id (not-true _ parts.0) in
+      (parts.1, clear, shown)
 
 -- ---- how a walk begins
 
@@ -128,6 +134,7 @@ module _ (history : History) (options : WalkOptions) (old : Course) (h : IsUnder
       exhausted = λ x among a. spent x among (admits_from history options old.sets h.sets f.asked.items x a);
     };
     all_asked = all_asked_from history options old.sets h.sets old.listed.items f it;
+    asked_within = asked_within_from history options old.sets h.sets old.listed.items old.listed.items f it;
     hidden_read = h.sets.hidden_read;
     mentions_read = λ id among clear shown said.
         let out = inside history options old.sets h.sets id clear shown in

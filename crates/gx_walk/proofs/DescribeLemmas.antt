@@ -1,14 +1,17 @@
 -- The answer of a search is a description.
-use Rattle.std.proofs.Common.{◌≡◌, ℕ, true, List, [], ◌∷◌, sym, ap, ◌∙◌, subst, Some, None, Option, Ok, Err, Result, IfOk, IfErr}
+use Rattle.std.proofs.Common.{◌≡◌, ◌≢◌, ◌<◌, ℕ, ℤ, Bool, true, take, filter, length, arith, List, [], ◌∷◌, sym, ap, ◌∙◌, subst, Some, None, Option, Ok, Err, Result, IfOk, IfErr}
+use Rattle.std.specs.Prelude.{IsSome}
+use Rattle.std.proofs.lemmas.Bool.{false≢true}
 use Rattle.gx_hash.specs.declared.oid.ObjectId.{ObjectId}
 use Rattle.gx_store.specs.State.{StoreState}
 use Rattle.gx_walk.specs.Causes.{CommitCauses}
-use Rattle.gx_walk.specs.Describe.{parents_by, AreCandidates, bare, IsByNearest, IsByCandidates, IsByName, IsDescription, followed_by, IsNearest}
+use Rattle.gx_walk.specs.Describe.{parents_by, AreCandidates, bare, IsByNearest, IsByCandidates, IsByName, IsDescription, IsReadForDescription, followed_by, is_named, IsNearest}
 use Rattle.gx_walk.specs.History.{History, Told, time_of, followed, Reaches, start}
 use Rattle.gx_hash.specs.ObjectIds.{has_id}
 use Rattle.gx_walk.specs.NameMap.{name_of}
 use Rattle.gx_walk.specs.Search.{follow, IsReached, IfReached, IsFound, IsNearestOf}
 use Rattle.gx_walk.specs.declared.commit.sorting.Parents.{Parents}
+use Rattle.gx_walk.specs.declared.describe.name_map.NameMap.{NameMap}
 use Rattle.gx_walk.specs.declared.describe.Options.{Options}
 use Rattle.gx_walk.specs.declared.describe.Outcome.{Outcome}
 use Rattle.gx_walk.specs.declared.describe.search.Nearest.{Nearest}
@@ -61,6 +64,24 @@ module _ (state : StoreState) (search : Search) (options : Options) (among : Lis
       (λ h. ((x : ObjectId) → has_id among x ≡ true → IsReached h search x) → IsReached h search one) (λ h. IsReached h search one)
       (λ h here of. of here) reached told) causes
 
+-- where no candidate is asked for, none is found
+none_among : (follow : ObjectId → List ObjectId) (time : ObjectId → ℤ) (id : ObjectId) (names : NameMap) (most : ℕ) → most ≡ 0 → AreCandidates follow time id names most []
+none_among follow time id names most none = record {
+  walk = [];
+  begins = λ i x at. cc;
+  first = sym (ap (λ (n : ℕ). take n (filter (is_named names) [])) none);
+  whole = λ less. absurd (omega (arith, less, none));
+}
+
+pub none_asked : (state : StoreState) (search : Search) (options : Options) (answer : Option Outcome) → options.max_candidates ≡ 0 → answer ≡ bare options.fallback search.id
+    → Told state (λ h. IsByCandidates (follow h search) (time_of h) options search.id answer)
+none_asked state search options answer none is = told_all state (λ h. IsByCandidates (follow h search) (time_of h) options search.id answer)
+    (λ h. ([], none_among (follow h search) (time_of h) search.id options.names options.max_candidates none, is))
+
+-- an error of a search in which candidates are asked for
+pub asked_causes : (state : StoreState) (N : ObjectId → Type 0) (most : ℕ) (e : WalkError) → most ≢ 0 → CommitCauses state N e → CommitCauses state (λ one. (most ≢ 0) × N one) e
+asked_causes state N most e some causes = causes_then state N (λ one. (most ≢ 0) × N one) e (λ one named. (some, named)) causes
+
 -- the search follows the parents that the options say
 module _ (state : StoreState) (search : Search) (options : Options) (shallow : List ObjectId)
     (parents_are : search.parents ≡ parents_by options.first_parent) (shallow_are : search.shallow ≡ shallow) where
@@ -76,12 +97,17 @@ module _ (state : StoreState) (search : Search) (options : Options) (shallow : L
       (λ h by. subst (λ own. IsByName (followed_by h options (has_id shallow)) (time_of h) options search.id own answer) (sym none)
       (subst (λ f. IsByCandidates f (time_of h) options search.id answer) (same_follow h) by)) told
 
-  pub described_causes : (e : WalkError) → CommitCauses state (λ one. Told state (λ h. IsReached h search one)) e
-      → CommitCauses state (λ one. Told state (λ h. Reaches (followed_by h options (has_id shallow)) (search.id ∷ []) one)) e
-  described_causes e causes = causes_then state (λ one. Told state (λ h. IsReached h search one))
-      (λ one. Told state (λ h. Reaches (followed_by h options (has_id shallow)) (search.id ∷ []) one)) e
-      (λ one told. told_then state (λ h. IsReached h search one) (λ h. Reaches (followed_by h options (has_id shallow)) (search.id ∷ []) one)
-      (λ h here. subst (λ f. Reaches f (search.id ∷ []) one) (same_follow h) here) told) causes
+  described_causes : (e : WalkError) → name_of options.names search.id ≡ None
+      → CommitCauses state (λ one. (options.max_candidates ≢ 0) × Told state (λ h. IsReached h search one)) e
+      → CommitCauses state (IsReadForDescription state (has_id shallow) options search.id) e
+  described_causes e none causes = causes_then state (λ one. (options.max_candidates ≢ 0) × Told state (λ h. IsReached h search one))
+      (IsReadForDescription state (has_id shallow) options search.id) e
+      (λ one (some, told). record {
+        own = λ named. absurd (false≢true (subst (λ (name : Option (List ℕ)). IsSome name) none named));
+        none = λ zero_. absurd (some zero_);
+        reached = told_then state (λ h. IsReached h search one) (λ h. Reaches (followed_by h options (has_id shallow)) (search.id ∷ []) one)
+            (λ h here. subst (λ f. Reaches f (search.id ∷ []) one) (same_follow h) here) told;
+      }) causes
 
   pub described_ok : (result : Result (Option Outcome) WalkError) → name_of options.names search.id ≡ None
       → IfOk result (λ answer. Told state (λ h. IsByCandidates (follow h search) (time_of h) options search.id answer))
@@ -89,14 +115,18 @@ module _ (state : StoreState) (search : Search) (options : Options) (shallow : L
   described_ok (Ok answer) none told = described answer none told
   described_ok (Err e) none told = tt
 
-  pub described_err : (result : Result (Option Outcome) WalkError)
-      → IfErr result (CommitCauses state (λ one. Told state (λ h. IsReached h search one)))
-      → IfErr result (CommitCauses state (λ one. Told state (λ h. Reaches (followed_by h options (has_id shallow)) (search.id ∷ []) one)))
-  described_err (Ok answer) causes = tt
-  described_err (Err e) causes = described_causes e causes
+  pub described_err : (result : Result (Option Outcome) WalkError) → name_of options.names search.id ≡ None
+      → IfErr result (CommitCauses state (λ one. (options.max_candidates ≢ 0) × Told state (λ h. IsReached h search one)))
+      → IfErr result (CommitCauses state (IsReadForDescription state (has_id shallow) options search.id))
+  described_err (Ok answer) none causes = tt
+  described_err (Err e) none causes = described_causes e none causes
 
 -- the id itself is reached
-pub own_causes : (state : StoreState) (follow : History → ObjectId → List ObjectId) (id : ObjectId) (e : WalkError)
-    → CommitCauses state (λ one. one ≡ id) e → CommitCauses state (λ one. Told state (λ h. Reaches (follow h) (id ∷ []) one)) e
-own_causes state follow id e causes = causes_then state (λ one. one ≡ id) (λ one. Told state (λ h. Reaches (follow h) (id ∷ []) one)) e
-    (λ one is. told_all state (λ h. Reaches (follow h) (id ∷ []) one) (λ h. subst (Reaches (follow h) (id ∷ [])) (sym is) (start (has_self id)))) causes
+pub own_causes : (state : StoreState) (is_shallow : ObjectId → Bool) (options : Options) (id : ObjectId) (e : WalkError)
+    → CommitCauses state (λ one. one ≡ id) e → CommitCauses state (IsReadForDescription state is_shallow options id) e
+own_causes state is_shallow options id e causes = causes_then state (λ one. one ≡ id) (IsReadForDescription state is_shallow options id) e
+    (λ one is. record {
+      own = λ named. is;
+      none = λ zero_. is;
+      reached = told_all state (λ h. Reaches (followed_by h options is_shallow) (id ∷ []) one) (λ h. subst (Reaches (followed_by h options is_shallow) (id ∷ [])) (sym is) (start (has_self id)));
+    }) causes

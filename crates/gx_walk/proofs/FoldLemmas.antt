@@ -75,3 +75,12 @@ pub drop_item : (ids : List ObjectId) (i : ℕ) (x : ObjectId) → i < length id
 drop_item ids i x lt is =
     let e : suc i ≡ i + 1 = omega arith in
     drop-cons ids i x lt ∙ ap (λ n. get_or ids i x ∷ drop n ids) e ∙ ap (λ w. w ∷ drop (i + 1) ids) (sym is)
+
+-- where all others are the commit itself, no base is missing
+pub never_none : (one : ObjectId) (others : List ObjectId) (base other : ObjectId) (bases : List ObjectId) → IsOwnOr one others base → has_id others other ≡ true → (IsAlone base (other ∷ []) → bases ≡ base ∷ [])
+    → slice_get bases 0 ≡ None → ((z : ObjectId) → has_id others z ≡ true → z ≡ one) → ⊥
+never_none one others base other bases (inr met) among alone at own = met.2 (own met.0 met.1)
+never_none one others base other bases (inl is_own) among alone at own =
+    let same : other ≡ base = own other among ∙ sym is_own in
+    let only : bases ≡ base ∷ [] = alone (inr (subst (λ w. has_id (other ∷ []) w ≡ true) same (has_self other))) in
+    let some : Some base ≡ None = sym (ap (λ w. slice_get w 0) only) ∙ at in cc

@@ -1,5 +1,5 @@
 -- What a graph has is what the history has.
-use Rattle.std.proofs.Common.{◌≡◌, Bool, true, false, List, [], ◌∷◌, ◌++◌, sym, refl, ap, ◌∙◌, subst, Some, None, Option, IsSome, Bor, if◌then◌else◌, ◌⊎◌, inl, inr}
+use Rattle.std.proofs.Common.{◌≡◌, Bool, true, false, length, arith, List, [], ◌∷◌, ◌++◌, sym, refl, ap, ◌∙◌, subst, Some, None, Option, IsSome, Bor, if◌then◌else◌, ◌⊎◌, inl, inr}
 use Rattle.std.specs.Prelude.{◌||◌}
 use Rattle.std.specs.BTreeMap.{is_at}
 use Rattle.std.specs.Map.{lookup}
@@ -7,11 +7,13 @@ use Rattle.std.specs.Option.{is_some, option_copied}
 use Rattle.std.proofs.lemmas.Bool.{false≢true}
 use Rattle.gx_hash.specs.ObjectId.{id_cmp}
 use Rattle.gx_hash.specs.declared.oid.ObjectId.{ObjectId}
-use Rattle.gx_walk.specs.Graph.{commit_in, history_in, node_in, IsEmpty, IsGraphOf, Extends, Puts}
+use Rattle.gx_store.specs.State.{StoreState}
+use Rattle.gx_walk.specs.Graph.{commit_in, history_in, node_in, IsEmpty, IsGraphIn, IsGraphOf, Extends, Puts}
 use Rattle.gx_walk.specs.History.{History, Node}
 use Rattle.gx_walk.specs.declared.graph.Graph.{Graph}
 use Rattle.gx_walk.specs.declared.graph.GraphCommit.{GraphCommit}
 use Rattle.gx_walk.proofs.IdLemmas.{itself_at, cases_at}
+use Rattle.gx_walk.proofs.TellLemmas.{told_all}
 
 module _ {T : Type 0} (old new : Graph T) (id : ObjectId) (commit : GraphCommit T) (puts : Puts old new id commit) where
   pub put_here : history_in new id ≡ node_in (Some commit)
@@ -50,4 +52,23 @@ extends_then old now new f g id some = let at = f id some in g id (subst (λ o. 
 
 -- a graph without commits is of every history
 pub graph_empty : {T : Type 0} (history : History) (graph : Graph T) → IsEmpty graph → IsGraphOf history graph
-graph_empty {T} history graph empty id some = absurd (false≢true (subst (λ (e : List (ObjectId × GraphCommit T)). IsSome (node_in (lookup (is_at (id_cmp id)) e))) empty some))
+graph_empty {T} history graph empty id some = absurd (false≢true (subst (λ (o : Option (GraphCommit T)). IsSome (node_in o)) (empty id) some))
+
+pub known_empty : {T : Type 0} (state : StoreState) (graph : Graph T) → IsEmpty graph → IsGraphIn state graph
+known_empty state graph empty = told_all state (λ h. IsGraphOf h graph) (λ h. graph_empty h graph empty)
+
+-- where there is no entry, there is no commit
+pub no_entries : {T : Type 0} (graph : Graph T) → graph.commits.entries ≡ [] → IsEmpty graph
+no_entries {T} graph none id = ap (λ (es : List (ObjectId × GraphCommit T)). lookup (is_at (id_cmp id)) es) none
+
+no_first : {X : Type 0} (entries : List (ObjectId × X)) → ((id : ObjectId) → lookup (is_at (id_cmp id)) entries ≡ None) → entries ≡ []
+no_first [] none = refl
+no_first ((k, v) ∷ rest) none =
+    let e : Some v ≡ None = sym (ap (λ (b : Bool). if b then Some v else lookup (is_at (id_cmp k)) rest) (itself_at k)) ∙ none k in cc
+
+pub none_left : {T : Type 0} (graph : Graph T) → IsEmpty graph → graph.commits.entries ≡ []
+none_left graph empty = no_first graph.commits.entries empty
+
+pub no_length : {X : Type 0} (entries : List X) → length entries ≡ 0 → entries ≡ []
+no_length [] h = refl
+no_length (e ∷ es) h = absurd (omega (arith, h))

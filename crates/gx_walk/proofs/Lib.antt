@@ -1,5 +1,6 @@
 pub mod AboveLemmas
 pub mod AheadLemmas
+pub mod AnswerLemmas
 pub mod AskedLemmas
 pub mod BaseLemmas
 pub mod BestLemmas
@@ -25,6 +26,7 @@ pub mod RecorderLemmas
 pub mod SearchLemmas
 pub mod StepLemmas
 pub mod TellLemmas
+pub mod TraversalLemmas
 pub mod WalkLemmas
 pub mod WeightLemmas
 pub mod WideLemmas

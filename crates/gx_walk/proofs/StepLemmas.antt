@@ -16,7 +16,7 @@ use Rattle.gx_walk.specs.declared.commit.sorting.WalkOptions.{WalkOptions}
 use Rattle.gx_walk.specs.declared.error.WalkError.{WalkError}
 use Rattle.std.specs.Option.{is_some}
 use Rattle.gx_walk.proofs.AskedLemmas.{Answers}
-use Rattle.gx_walk.proofs.CourseLemmas.{inside, all_mentioned, named_waiting, named_best, next_from_best, whole_from_spent, under_way_end, under_way_next}
+use Rattle.gx_walk.proofs.CourseLemmas.{inside, all_mentioned, asked_within_from, named_waiting, named_best, next_from_best, whole_from_spent, under_way_end, under_way_next}
 use Rattle.gx_walk.proofs.TellLemmas.{told_all, told_then, told_both, causes_then}
 
 -- ---- the sets that a walk goes by
@@ -102,6 +102,7 @@ module _ (state : StoreState) (options : WalkOptions) (old : Course) (f : Fronti
             record {
               next = rw is (next_from_best history options old.sets h.sets g.asked.items old.listed.items id best);
               all_asked = λ one among clear shown. kept.answered one among (inside history options old.sets h.sets one clear shown);
+              asked_within = asked_within_from history options old.sets h.sets old.listed.items (old.listed.items ++ id ∷ []) g kept;
               stored = rw is (ap is_some at);
               parents = rw is (its ∙ follows history at h);
               time = rw is (time ∙ ap (λ o. time_told options.sorting (time_in o)) (sym at));

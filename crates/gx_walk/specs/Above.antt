@@ -10,7 +10,7 @@ abbrev pub IsApart : List ObjectId → Type 0
 IsApart [] = Unit {0}
 IsApart (id ∷ ids) = (has_id ids id ≡ false) × IsApart ids
 
--- a set, by its keys, has these ids, none of which comes twice
+-- The keys of a set are these ids, and no id comes twice.
 pub record IsSetOf (ids keys : List ObjectId) : Type 0 where
   pub apart : IsApart ids
   pub same : (one : ObjectId) → list_any (is_at (derived_cmp one)) keys ≡ has_id ids one

@@ -1,10 +1,11 @@
 -- The nearest name of a commit. (git-describe(1), "SEARCH STRATEGY")
-use Rattle.std.specs.Prelude.{◌≡◌, ◌↔◌, ℕ, ◌≤◌, ◌<◌, ℤ, Bool, true, List, [], ◌∷◌, length, take, filter, slice_get, Option, Some, None, if◌then◌else◌}
+use Rattle.std.specs.Prelude.{◌≡◌, ◌↔◌, ℕ, ◌≤◌, ◌<◌, ℤ, Bool, true, List, [], ◌∷◌, length, take, filter, slice_get, Option, Some, None, IsSome, if◌then◌else◌}
 use Rattle.std.specs.List.{IsDistinct}
 use Rattle.std.specs.Option.{is_some}
 use Rattle.gx_hash.specs.ObjectIds.{id_eq, has_id}
 use Rattle.gx_hash.specs.declared.oid.ObjectId.{ObjectId}
-use Rattle.gx_walk.specs.History.{History, time_of, followed, Reaches}
+use Rattle.gx_store.specs.State.{StoreState}
+use Rattle.gx_walk.specs.History.{History, Told, time_of, followed, Reaches}
 use Rattle.gx_walk.specs.NameMap.{name_of}
 use Rattle.gx_walk.specs.Walk.{BeginsWalk, IsExhausted}
 use Rattle.gx_walk.specs.declared.commit.sorting.CommitTimeOrder.TheVariants.{NewestFirst}
@@ -19,7 +20,7 @@ use Rattle.gx_walk.specs.declared.describe.Outcome.{Outcome}
 abbrev pub parents_by : Bool → Parents
 parents_by first_parent = if first_parent then First else All
 
--- Exactly so many commits are within.
+-- Exactly this many commits have the property.
 pub record HasSize (Within : ObjectId → Type 0) (size : ℕ) : Type 0 where
   pub ids : List ObjectId
   pub distinct : IsDistinct id_eq ids
@@ -35,8 +36,8 @@ module _ (follow : ObjectId → List ObjectId) (id : ObjectId) where
   abbrev pub HasDepth : ObjectId → ℕ → Type 0
   HasDepth candidate depth = HasSize (IsBeyond candidate) depth
 
-  -- The nearest candidate is one of the least depth, and the first of them. (git-describe(1); that it is the first of
-  -- equals is ours)
+  -- The nearest candidate is one of the least depth, and the first of them. (git-describe(1), whose text does not say
+  -- that it is the first)
   pub record IsNearest (among : List ObjectId) (nearest : ObjectId) (depth : ℕ) : Type 0 where
     pub place : ℕ
     pub here : slice_get among place ≡ Some nearest
@@ -55,11 +56,12 @@ module _ (follow : ObjectId → List ObjectId) (time : ObjectId → ℤ) (id : O
   abbrev pub BeginsSearch : List ObjectId → Type 0
   BeginsSearch = BeginsWalk follow time (ByCommitTime NewestFirst) (λ _. Unit {0}) (id ∷ [])
 
-  -- and goes no further
+  -- and no commit is left to that walk
   abbrev pub EndsSearch : List ObjectId → Type 0
   EndsSearch = IsExhausted follow time (ByCommitTime NewestFirst) (λ _. Unit {0}) (id ∷ [])
 
-  -- The candidates are the first named commits of that walk, at most so many; only the whole walk has fewer.
+  -- The candidates are the first named commits of that walk, at most so many. There are fewer only if the walk has no
+  -- more.
   -- (git-describe(1), "--candidates")
   pub record AreCandidates (names : NameMap) (most : ℕ) (among : List ObjectId) : Type 0 where
     pub walk : List ObjectId
@@ -98,3 +100,10 @@ followed_by history options is_shallow = followed history (parents_by options.fi
 abbrev pub IsDescription : History → (ObjectId → Bool) → Options → ObjectId → Option Outcome → Type 0
 IsDescription history is_shallow options id answer =
     IsByName (followed_by history options is_shallow) (time_of history) options id (name_of options.names id) answer
+
+-- An error may name what the commit reaches, and the commit alone if it has a name or no candidate is asked for.
+pub record IsReadForDescription (state : StoreState) (is_shallow : ObjectId → Bool) (options : Options)
+    (id one : ObjectId) : Type 0 where
+  pub own : IsSome (name_of options.names id) → one ≡ id
+  pub none : options.max_candidates ≡ 0 → one ≡ id
+  pub reached : Told state (λ history. Reaches (followed_by history options is_shallow) (id ∷ []) one)

@@ -1,5 +1,5 @@
 -- Commits that were read before.
-use Rattle.std.specs.Prelude.{◌≡◌, ℕ, [], Option, Some, None, IsSome, if◌then◌else◌}
+use Rattle.std.specs.Prelude.{◌≡◌, ℕ, Option, Some, None, IsSome, if◌then◌else◌}
 use Rattle.std.specs.BTreeMap.{btree_map_len, get, is_at}
 use Rattle.gx_hash.specs.ObjectId.{id_cmp}
 use Rattle.gx_hash.specs.declared.oid.ObjectId.{ObjectId}
@@ -19,7 +19,7 @@ module _ {T : Type 0} where
 
   -- the graph has no commit
   abbrev pub IsEmpty : Graph T → Type 0
-  IsEmpty graph = graph.commits.entries ≡ []
+  IsEmpty graph = (id : ObjectId) → commit_in graph id ≡ None
 
   -- the commit is at the id, and at all other ids the graph is as before
   abbrev pub Puts : Graph T → Graph T → ObjectId → GraphCommit T → Type 0
@@ -43,6 +43,6 @@ module _ {T : Type 0} where
   abbrev pub IsGraphIn : StoreState → Graph T → Type 0
   IsGraphIn state graph = Told state (λ history. IsGraphOf history graph)
 
-  -- each commit of the one graph is in the other
+  -- each commit of the old graph is in the new one as it was
   abbrev pub Extends : Graph T → Graph T → Type 0
   Extends old new = (id : ObjectId) → IsSome (history_in old id) → history_in new id ≡ history_in old id

@@ -1,4 +1,5 @@
 pub mod Above
+pub mod AnswerLaws
 pub mod Best
 pub mod Breadth
 pub mod Causes
@@ -21,5 +22,6 @@ pub mod Search
 pub mod Simple
 pub mod Stops
 pub mod Traversal
+pub mod TraversalLaws
 pub mod Visits
 pub mod Walk

@@ -61,7 +61,7 @@ IsOctopus history shallow one (other ∷ others) found = (bases : List ObjectId)
     × AreBases history shallow one (other ∷ []) bases
     × MatchOption (slice_get bases 0) (found ≡ None) (λ base. IsOctopus history shallow base others found)
 
--- an error may name what the commits reach, if not all of them are one
+-- an error may name what the commits reach, if some other is not the commit itself
 pub record IsReadForOctopus (state : StoreState) (shallow : List ObjectId) (one : ObjectId) (others : List ObjectId)
     (id : ObjectId) : Type 0 where
   pub other : ObjectId

@@ -100,6 +100,12 @@ abbrev pub AllAsked : History → WalkOptions → List (ObjectId × Bool) → Li
 AllAsked history options asked listed = (id : ObjectId) → has_id (mentioned history options listed) id ≡ true
     → has_id options.boundary id ≡ false → ¬ IsHidden history options id → IsSome (answer_at asked id)
 
+-- The filter was asked about nothing but such mentions.
+abbrev pub AskedWithin : History → WalkOptions → List (ObjectId × Bool) → List ObjectId → Type 0
+AskedWithin history options asked listed = (id : ObjectId) → IsSome (answer_at asked id)
+    → (has_id (mentioned history options listed) id ≡ true) × (has_id options.boundary id ≡ false)
+    × (¬ IsHidden history options id)
+
 -- The filter was asked about no id twice.
 abbrev pub AskedOnce : List (ObjectId × Bool) → Type 0
 AskedOnce asked = (i j : ℕ) (id : ObjectId) (a b : Bool) → slice_get asked i ≡ Some (id, a)
@@ -118,6 +124,7 @@ pub record IsNextInfo (history : History) (options : WalkOptions) (asked : List 
     (listed : List ObjectId) (info : Info) : Type 0 where
   pub next : IsNextOf history options asked listed info.id
   pub all_asked : AllAsked history options asked listed
+  pub asked_within : AskedWithin history options asked listed
   pub stored : IsSome (history info.id)
   pub parents : info.parent_ids ≡ follow history options info.id
   pub time : info.commit_time ≡ time_told options.sorting (time_of history info.id)
@@ -128,6 +135,7 @@ pub record IsWhole (history : History) (options : WalkOptions) (asked : List (Ob
     (listed : List ObjectId) : Type 0 where
   pub walk : IsWalkOf history options asked listed
   pub all_asked : AllAsked history options asked listed
+  pub asked_within : AskedWithin history options asked listed
   pub hidden_read : (id : ObjectId) → IsHidden history options id → IsSome (history id)
   pub mentions_read : (id : ObjectId) → has_id (mentioned history options listed) id ≡ true
       → has_id options.boundary id ≡ false → ¬ IsHidden history options id → answer_at asked id ≡ Some true

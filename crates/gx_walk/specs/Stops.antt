@@ -53,9 +53,9 @@ pub record IsNoRoot (state : StoreState) (root : ObjectId) (bytes : List ℕ) (o
   pub bad : (entries : List Entry) → ¬ SpellsTree state.hash bytes entries
   pub told : new ≡ old
 
--- Why a traversal ends early: the tree to be entered next contains itself or is not opened, the visitor answered
--- `Cancel`, or memory ran out. The visitor has been shown all entries before that, and but for `Cancelled` it has not
--- answered `Cancel`.
+-- Why a traversal ends early: the bytes of the root spell no tree, the tree to be entered next contains itself or is
+-- not opened, the visitor answered `Cancel`, or memory ran out. The visitor has been shown all entries before that, and
+-- but for `Cancelled` it has not answered `Cancel`.
 abbrev pub TraversalCauses : StoreState → Order → ObjectId → List ℕ → Option (List TreeVisit)
     → Option (List TreeVisit) → ℕ → ℕ → WalkError → Type 0
 TraversalCauses state order root bytes old new before after walk_error.NoMemory = (after ≡ before)

@@ -12,13 +12,14 @@ use Rattle.gx_walk.specs.declared.tree.visit.Action.TheVariants.{Continue, Skip,
 use Rattle.gx_walk.specs.Visits.{TreeVisit, visit_of}
 
 -- Breadth first, a tree is entered after all trees that were visited before it; depth first, right after its own visit.
--- (git-ls-tree(1), "-r", lists depth first; breadth first is ours)
+-- (git-ls-tree(1), "-r" and "-t", lists depth first; breadth first is ours)
 pub data Order : Type 0 where
   BreadthFirst : Order
   DepthFirst : Order
 
 -- What a traversal still has to do: visit an entry, or enter a tree. Each task has the ids of the trees that contain
--- the entry or the tree, from the root down, and the path of the directory, followed by a slash.
+-- the entry or the tree, from the root down, and what stands before the names there: the path of the entry's directory
+-- or of the tree itself, followed by a slash, and nothing for the root.
 pub data Task : Type 0 where
   Visit : List ObjectId → List ℕ → Entry → Task
   Enter : List ObjectId → List ℕ → ObjectId → Task

@@ -1,8 +1,9 @@
 -- What a visitor of trees tells and counts.
-use Rattle.std.specs.Prelude.{◌≡◌, ℕ, List, [], ◌∷◌, ◌++◌, Option, option_map}
+use Rattle.std.specs.Prelude.{◌≡◌, ℕ, Bool, List, [], ◌∷◌, ◌++◌, Option, option_map}
 use Rattle.gx_hash.specs.declared.oid.ObjectId.{ObjectId}
 use Rattle.gx_object.specs.declared.tree.EntryMode.{EntryMode}
 use Rattle.gx_object.specs.declared.tree.Entry.{Entry}
+use Rattle.gx_object.specs.Mode.{is_tree_mode}
 use Rattle.gx_store.specs.Faults.{Rose}
 use Rattle.gx_walk.specs.declared.tree.visit.Action.{Action}
 use Rattle.gx_walk.specs.declared.tree.visit.Action.TheVariants.{Continue, Skip, Cancel}
@@ -17,6 +18,15 @@ pub record TreeVisit : Type 0 where
 -- the visit of an entry at a path
 abbrev pub visit_of : List ℕ → Entry → Action → TreeVisit
 visit_of path entry answer = record { path = path; mode = entry.mode; id = entry.oid; answer = answer }
+
+-- the path ends with the name of the entry
+abbrev pub EndsWithName : List ℕ → Entry → Type 0
+EndsWithName path entry = (directory : List ℕ) × (path ≡ directory ++ entry.filename)
+
+-- An entry is shown under a path that ends with its name, by the call for trees exactly if it is one.
+pub record IsShown (path : List ℕ) (entry : Entry) (as_tree : Bool) : Type 0 where
+  pub named : EndsWithName path entry
+  pub kind : is_tree_mode entry.mode.value ≡ as_tree
 
 -- The count rises exactly at a `Cancel`. At the last value of u64 it stays.
 abbrev pub Counts : Action → ℕ → ℕ → Type 0

@@ -41,11 +41,11 @@ impl Options {
 /// The description of a commit.
 #[derive(Debug, Drop)]
 pub struct Outcome {
-    /// The name of the nearest commit that has one.
+    /// The name of the nearest commit that has one. There is none where the id itself is the description.
     pub name: Option<Bytes>,
     /// The commit that is described.
     pub id: ObjectId,
-    /// How many commits it reaches that the named one does not.
+    /// How many commits it reaches that the named one does not; 0 without a name.
     pub depth: u64,
 }
 
@@ -84,7 +84,7 @@ pub struct Format {
 }
 
 impl Format {
-    /// Whether there is no commit between the name and the id.
+    /// Whether the depth is 0: the commit has the name itself, or there is no name.
     pub fn is_exact_match(&self) -> bool
         ensures { IsTrue result ↔ (self.now.depth ≡ 0) }
     {

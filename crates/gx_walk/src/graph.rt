@@ -55,7 +55,7 @@ impl<T> Graph<T> {
         ensures ok { OnOk result (Puts self.old self.new id commit) }
         ensures len { IfOk result (λ replaced.
             graph_len self.new ≡ graph_len self.old + (if is_some replaced then 0 else 1)) }
-        ensures err { OnErr result ((one : ObjectId) → commit_in self.new one ≡ commit_in self.old one) }
+        ensures leaves { OnErr result ((one : ObjectId) → commit_in self.new one ≡ commit_in self.old one) }
     {
         Ok(self.commits.insert(id, commit)?)
     }
@@ -76,7 +76,8 @@ impl<T> Graph<T> {
     pub fn clear(&mut self)
     where
         T: Drop,
-        ensures { IsEmpty self.new }
+        ensures empty { IsEmpty self.new }
+        ensures known { (state : StoreState) → IsGraphIn state self.new }
     {
         self.commits.clear()
     }

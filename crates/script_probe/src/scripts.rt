@@ -2,10 +2,10 @@
 
 use crate::requests::push_request;
 use gx_hash::{Bytes, HashKind};
-use gx_script::{ScriptError, ScriptReader};
+use gx_script::{Request, ScriptError, ScriptReader};
 use gx_store::{Calls, MemorySource, Source, SourceError};
 use probe_rows::ProbeError;
-use probe_rows::answers::{hash_of, number_of, word};
+use probe_rows::answers::{hash_of, number_of, numbered, push_shown, word};
 use std::alloc::Global;
 
 /// The most bytes of a script that the program reads.
@@ -66,27 +66,42 @@ pub fn next<I: Source + Drop>(
     input: &mut Watched<I>,
 ) -> Result<Told, ProbeError> {
     match reader.next(input) {
-        Ok(Some(request)) => {
-            let mut line = Vec::new(alloc);
-            push_request(alloc, &mut line, &request)?;
-            Ok(Told::Request(line))
-        }
+        Ok(Some(request)) => request_told(line_of(alloc, &request)),
         Ok(None) => Ok(Told::End),
-        Err(error) => Ok(Told::Wrong(fault(alloc, error, input.is_ended)?)),
+        Err(error) => fault_told(alloc, error, input.is_ended),
     }
+}
+
+fn request_told(line: Result<Vec<u8>, ProbeError>) -> Result<Told, ProbeError> {
+    Ok(Told::Request(line?))
+}
+
+fn line_of(alloc: Global, request: &Request) -> Result<Vec<u8>, ProbeError> {
+    let mut line = Vec::new(alloc);
+    push_request(alloc, &mut line, request)?;
+    Ok(line)
+}
+
+fn fault_told(alloc: Global, error: ScriptError, is_ended: bool) -> Result<Told, ProbeError> {
+    let line = fault(alloc, error, is_ended)?;
+    Ok(Told::Wrong(line))
 }
 
 /// How a script is wrong. One that is cut off is told apart, since the reader asked for more and saw the end.
 fn fault(alloc: Global, error: ScriptError, is_ended: bool) -> Result<Vec<u8>, ProbeError> {
     match error {
-        ScriptError::Malformed { line } if is_ended => {
-            Ok(format!(in alloc; "truncated {line}")?.into_bytes())
-        }
-        ScriptError::Malformed { line } => Ok(format!(in alloc; "malformed {line}")?.into_bytes()),
+        ScriptError::Malformed { line } if is_ended => in_line(alloc, "truncated", line),
+        ScriptError::Malformed { line } => in_line(alloc, "malformed", line),
         ScriptError::TooLong => word(alloc, "too long"),
         ScriptError::ReadFault => Err(ProbeError::Failed),
         ScriptError::NoMemory => Err(ProbeError::NoMemory),
     }
+}
+
+fn in_line(alloc: Global, text: &str, line: u64) -> Result<Vec<u8>, ProbeError> {
+    let mut answer = word(alloc, text)?;
+    push_shown(alloc, &mut answer, &line)?;
+    Ok(answer)
 }
 
 /// The answers to rows on scripts: `script (sha1 | sha256) TEXT [LIMIT]`.
@@ -130,7 +145,7 @@ fn in_pieces(
     };
     for most in pieces {
         if listing(alloc, hash, text, limit, *most)? != whole {
-            return Ok(format!(in alloc; "otherwise in pieces of {most}")?.into_bytes());
+            return numbered(alloc, "otherwise in pieces of", *most);
         }
     }
     Ok(whole)

@@ -117,7 +117,7 @@ fn answer_edit(
     }
 }
 
-fn told(alloc: Global, answered: Result<(), EditError>) -> Result<Vec<u8>, ProbeError> {
+pub fn told(alloc: Global, answered: Result<(), EditError>) -> Result<Vec<u8>, ProbeError> {
     match answered {
         Ok(()) => word(alloc, "ok"),
         Err(error) => edit_error(alloc, &error),
@@ -155,7 +155,7 @@ fn upsert(
     )
 }
 
-fn kind_in(mode: &[u8]) -> Result<EntryKind, ProbeError> {
+pub fn kind_in(mode: &[u8]) -> Result<EntryKind, ProbeError> {
     match word_in(mode)? {
         "40000" => Ok(EntryKind::Tree),
         "100644" => Ok(EntryKind::Blob),
@@ -173,7 +173,7 @@ fn shown_at(alloc: Global, editor: &Editor, path: &[u8]) -> Result<Vec<u8>, Prob
     }
 }
 
-fn shown(alloc: Global, entry: EntryView<'_>) -> Result<Vec<u8>, ProbeError> {
+pub fn shown(alloc: Global, entry: EntryView<'_>) -> Result<Vec<u8>, ProbeError> {
     let mode = entry.mode.value();
     let mut answer = format!(in alloc; "{mode:o}")?.into_bytes();
     push_field(&mut answer, entry.filename.as_bytes())?;
@@ -193,7 +193,14 @@ fn write(
     } else {
         Some(protect_in(words)?)
     };
-    match edited.write(store, protect)? {
+    told_root(alloc, edited.write(store, protect)?)
+}
+
+pub fn told_root(
+    alloc: Global,
+    written: Result<ObjectId, EditError>,
+) -> Result<Vec<u8>, ProbeError> {
+    match written {
         Ok(root) => hex(alloc, &root),
         Err(error) => edit_error(alloc, &error),
     }

@@ -1,5 +1,6 @@
 //! How rows tell why a store, a reference or a tree refuses a call: the variant's name and what it holds.
 
+use gix::object::tree::EditTreeError;
 use gx_edit::EditError;
 use gx_hash::ObjectId;
 use gx_object::{EntryKind, Field, Kind};
@@ -129,6 +130,24 @@ pub fn edit_error(alloc: Global, error: &EditError) -> Result<Vec<u8>, ProbeErro
         EditError::WriteObject { field } => unwritable(alloc, *field),
         EditError::Store { what } => failed(alloc, "store", what),
         EditError::NoMemory => Err(ProbeError::NoMemory),
+    }
+}
+
+pub fn edit_tree_error(alloc: Global, error: &EditTreeError) -> Result<Vec<u8>, ProbeError> {
+    match error {
+        EditTreeError::NotFound { id } => with_id(alloc, "not-found", id),
+        EditTreeError::ObjectKind {
+            id,
+            expected,
+            actual,
+        } => {
+            let mut answer = object_kind(alloc, id, *expected)?;
+            push_field(&mut answer, actual.as_bytes())?;
+            Ok(answer)
+        }
+        EditTreeError::Decode { id } => with_id(alloc, "decode", id),
+        EditTreeError::Store { what } => failed(alloc, "store", what),
+        EditTreeError::NoMemory => Err(ProbeError::NoMemory),
     }
 }
 

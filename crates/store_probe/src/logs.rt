@@ -18,15 +18,10 @@ pub fn due_of(alloc: Global, fields: &[Vec<u8>]) -> Result<Vec<u8>, ProbeError> 
     let [mode, name, words @ ..] = fields else {
         return Err(ProbeError::BadLine);
     };
+    let mode = mode_in(mode)?;
     let store = store_of(alloc, name, words)?;
     let name = name_in(alloc, name)?;
-    due(
-        alloc,
-        &store,
-        mode_in(mode)?,
-        &name,
-        has_word(words, b"force"),
-    )
+    due(alloc, &store, mode, &name, has_word(words, b"force"))
 }
 
 fn store_of(alloc: Global, name: &[u8], words: &[Vec<u8>]) -> Result<Memory, ProbeError> {
@@ -64,7 +59,7 @@ pub fn line_of(alloc: Global, fields: &[Vec<u8>]) -> Result<Vec<u8>, ProbeError>
     quoted(alloc, &line_bytes(alloc, &line)?)
 }
 
-fn signature(
+pub fn signature(
     alloc: Global,
     name: &[u8],
     email: &[u8],

@@ -2,6 +2,7 @@
 //! input, and prints them again with what the libraries answer.
 #![tactic(auto)]
 
+mod committers;
 mod directories;
 mod editors;
 mod edits;
@@ -11,7 +12,9 @@ mod path_maps;
 mod reference_edits;
 mod references;
 mod runs;
+mod settings;
 mod store;
+mod tree_editors;
 mod values;
 
 use probe_rows::{Answer, ProbeError, answer_rows};
@@ -45,6 +48,7 @@ impl Answer for Libraries {
             "edits" => path_maps::answer_edits(alloc, fields),
             "path_map" => path_maps::answer_steps(alloc, fields),
             "editor" => editors::answer(alloc, fields),
+            "edit_tree" => tree_editors::answer(alloc, fields),
             _ => directories::answer(alloc, call, fields),
         }
     }

@@ -1,20 +1,19 @@
 //! Steps of `store` rows that edit references, find them by a part of their names, and list them.
 //!
 //! `edit SPACE LOGS WHO EDIT..` makes the edits: in a namespace, or none by `-`; by the setting of logs; signed by a
-//! committer, who is `someone`, `none`, or `unwritable`. An edit is four fields: a name; an id, the name that a
-//! symbolic reference leads to, or `delete`; what is expected, as `any`, `exists`, `absent`, `!TARGET` (exists so) or
-//! `?TARGET` (is absent, or exists so); and how, as `-` or some of `deref`, `force` and `only` with commas. The answer
-//! tells the edits that were made in the same words.
+//! committer, who is `someone`, `none`, or one of whom a part can't be written, `bad-name`, `bad-email` or
+//! `bad-offset`. An edit is four fields: a name; an id, the name that a symbolic reference leads to, or `delete`; what
+//! is expected, as `any`, `exists`, `absent`, `!TARGET` (exists so) or `?TARGET` (is absent, or exists so); and how, as
+//! `-` or some of `deref`, `force` and `only` with commas. The answer tells the edits that were made in the same words.
 ghost use Rattle.std.specs.Prelude.{IfOk};
 ghost use Rattle.gx_store.specs.Kinds.{IsTargetOfKind};
 ghost use Rattle.gx_refs.specs.Prepared.{AreEditsOfKind, SetsKind};
 
+use crate::committers::committer_in;
 use crate::faults::{push_target, reference_error};
-use crate::logs::person;
 use crate::references::told_names;
 use crate::values::{mode_in, name_in};
 use gx_hash::{Bytes, HashKind};
-use gx_object::Signature;
 use gx_refs::{Change, Edits, LogChange, PreviousValue, RefEdit, RefLog, find, iterate, prepare};
 use gx_rules::{Namespace, PartialName, expand_namespace};
 use gx_store::{Memory, Objects, Target};
@@ -103,18 +102,6 @@ fn space_in(alloc: Global, field: &[u8]) -> Result<Option<Namespace>, ProbeError
     }
     let name = partial_in(alloc, field)?;
     Ok(Some(expand_namespace(alloc, &name)?))
-}
-
-fn committer_in(alloc: Global, field: &[u8]) -> Result<Option<Signature>, ProbeError> {
-    match field {
-        b"someone" => Ok(Some(person(alloc)?)),
-        b"unwritable" => Ok(Some(Signature {
-            name: Bytes::from_slice(alloc, b"A<B")?,
-            ..person(alloc)?
-        })),
-        b"none" => Ok(None),
-        _ => Err(ProbeError::BadLine),
-    }
 }
 
 #[tactic(auto, using(crate::proofs::EditLemmas::one_edit_more))]

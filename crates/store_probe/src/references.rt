@@ -7,7 +7,7 @@ use crate::logs::{due, line_bytes, person};
 use crate::store::only;
 use crate::values::{has_word, id_in, mode_in, name_in};
 use gx_hash::{Bytes, HashKind, ObjectId};
-use gx_refs::{RefError, WriteReflog, chain, move_end, resolve};
+use gx_refs::{Chain, RefError, WriteReflog, chain, move_end, resolve};
 use gx_rules::FullName;
 use gx_store::{
     Lines, LogAct, LogLine, Memory, Names, Objects, RefChange, References, StoreError, Target,
@@ -63,24 +63,31 @@ fn list(alloc: Global, store: &Memory, prefix: &[u8]) -> Result<Vec<u8>, ProbeEr
 
 pub fn told_names(alloc: Global, names: &Names) -> Result<Vec<u8>, ProbeError> {
     let mut answer = Vec::new(alloc);
-    for name in names.as_slice() {
-        push_field(&mut answer, name.as_slice())?;
-    }
+    push_names(&mut answer, names)?;
     if answer.is_empty() {
         push_word(&mut answer, "none")?;
     }
     Ok(answer)
 }
 
+fn push_names(answer: &mut Vec<u8>, names: &Names) -> Result<(), ProbeError> {
+    for name in names.as_slice() {
+        push_field(answer, name.as_slice())?;
+    }
+    Ok(())
+}
+
 fn find(alloc: Global, store: &Memory, name: &FullName) -> Result<Vec<u8>, ProbeError> {
     match store.find(alloc, name) {
-        Ok(found) => {
-            let mut answer = Vec::new(alloc);
-            push_found(&mut answer, &found)?;
-            Ok(answer)
-        }
+        Ok(found) => told_target(alloc, &found),
         Err(error) => store_error(alloc, &error),
     }
+}
+
+fn told_target(alloc: Global, target: &Option<Target>) -> Result<Vec<u8>, ProbeError> {
+    let mut answer = Vec::new(alloc);
+    push_found(&mut answer, target)?;
+    Ok(answer)
 }
 
 fn push_found(answer: &mut Vec<u8>, target: &Option<Target>) -> Result<(), ProbeError> {
@@ -109,9 +116,14 @@ fn log(alloc: Global, store: &Memory, name: &FullName) -> Result<Vec<u8>, ProbeE
 fn told_lines(alloc: Global, lines: &Lines) -> Result<Vec<u8>, ProbeError> {
     let mut answer = Vec::new(alloc);
     for line in lines.as_slice() {
-        push_field(&mut answer, &line_bytes(alloc, line)?)?;
+        push_line(alloc, &mut answer, line)?;
     }
     Ok(answer)
+}
+
+fn push_line(alloc: Global, answer: &mut Vec<u8>, line: &LogLine) -> Result<(), ProbeError> {
+    let bytes = line_bytes(alloc, line)?;
+    push_field(answer, &bytes)
 }
 
 fn last_line(alloc: Global, store: &Memory, name: &FullName) -> Result<Vec<u8>, ProbeError> {
@@ -126,7 +138,7 @@ fn last_line(alloc: Global, store: &Memory, name: &FullName) -> Result<Vec<u8>, 
 fn count_and_last(alloc: Global, lines: &[LogLine]) -> Result<Vec<u8>, ProbeError> {
     let mut answer = shown(alloc, &lines.len())?;
     if let Some(line) = lines.last() {
-        push_field(&mut answer, &line_bytes(alloc, line)?)?;
+        push_line(alloc, &mut answer, line)?;
     }
     Ok(answer)
 }
@@ -147,28 +159,25 @@ fn chain_from(alloc: Global, store: &Memory, name: &FullName) -> Result<Vec<u8>,
 
 fn resolved(alloc: Global, store: &Memory, name: &FullName) -> Result<Vec<u8>, ProbeError> {
     match resolve(alloc, store, name) {
-        Ok(chain) => {
-            let mut answer = told_names(alloc, &chain.names)?;
-            push_word(&mut answer, "->")?;
-            push_found(&mut answer, &chain.target)?;
-            Ok(answer)
-        }
+        Ok(chain) => told_chain(alloc, &chain),
         Err(error) => reference_error(alloc, &RefError::from(error)),
     }
+}
+
+fn told_chain(alloc: Global, chain: &Chain) -> Result<Vec<u8>, ProbeError> {
+    let mut answer = told_names(alloc, &chain.names)?;
+    push_word(&mut answer, "->")?;
+    push_found(&mut answer, &chain.target)?;
+    Ok(answer)
 }
 
 fn due_here(alloc: Global, store: &Memory, fields: &[Vec<u8>]) -> Result<Vec<u8>, ProbeError> {
     let [mode, name, words @ ..] = fields else {
         return Err(ProbeError::BadLine);
     };
+    let mode = mode_in(mode)?;
     let name = name_in(alloc, name)?;
-    due(
-        alloc,
-        store,
-        mode_in(mode)?,
-        &name,
-        has_word(words, b"force"),
-    )
+    due(alloc, store, mode, &name, has_word(words, b"force"))
 }
 
 /// A change of the name. Its target is kept or removed, or becomes an id of the kind, or else another name. Its log is

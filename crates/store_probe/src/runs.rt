@@ -3,9 +3,13 @@
 //! - `script TEXT` runs a script, and answers the status and what was written. `within LIMIT TEXT` does so for a script
 //!   of at most LIMIT bytes; `reading SIZE CALL TEXT` from a source that gives at most SIZE bytes at once and fails at
 //!   that call; `writing CALL TEXT` to a sink that fails at that call. Calls are counted from 1.
-//! - `windows` forbids names that Windows forbids.
+//! - `generate NUMBER` runs the generator, and answers the same; `generate CALL NUMBER` to a sink that fails at that
+//!   call.
+//! - `windows` forbids names that Windows forbids; `logs MODE` says which logs are written, as `normal`, `always` or
+//!   `disable`.
 //! - All other steps are those of `store` rows.
 
+use crate::settings::choose;
 use crate::store::{answer_step, push_answer};
 use crate::values::hash_in;
 use gix::{Repository, Settings};
@@ -14,7 +18,7 @@ use gx_object::Time;
 use gx_store::{Calls, Memory, MemorySink, MemorySource};
 use gx_tool::{run, run_limited};
 use probe_rows::ProbeError;
-use probe_rows::answers::{number_of, push_field, shown};
+use probe_rows::answers::{number_of, push_field, shown, word};
 use std::alloc::Global;
 
 /// The moment of each run.
@@ -23,10 +27,11 @@ const NOW: Time = Time {
     offset: 0,
 };
 
-/// A script, and how it is run.
+/// A script, or a number of commits of the generator, and how it is run.
 #[derive(Clone, Copy)]
 struct Script<'a> {
     text: &'a [u8],
+    number: Option<&'a [u8]>,
     limit: Option<u64>,
     /// The most bytes that are read at once.
     most: usize,
@@ -56,26 +61,28 @@ fn stepped(
     answers: &mut Vec<u8>,
 ) -> Result<Repository<Memory>, ProbeError> {
     if let Some(script) = script_in(step) {
-        push_answer(answers, &ran(alloc, &mut repo, script)?)?;
+        let answer = ran(alloc, &mut repo, script)?;
+        push_answer(answers, &answer)?;
         return Ok(repo);
     }
-    let mut settings = Settings::new();
-    settings.protect = repo.settings().protect;
+    let mut settings = repo.set_settings(Settings::new());
     let mut store = repo.into_store();
-    if is_windows(step) {
-        settings.protect.windows = true;
-        push_answer(answers, b"ok")?;
-    } else {
-        push_answer(answers, &answer_step(alloc, &mut store, step)?)?;
-    }
+    let answer = chosen_or_made(alloc, &mut settings, &mut store, step)?;
+    push_answer(answers, &answer)?;
     Ok(Repository::new(store, settings))
 }
 
-fn is_windows(step: &[Vec<u8>]) -> bool {
-    match step {
-        [word] => word.as_slice() == b"windows".as_slice(),
-        _ => false,
+/// The answer of a step that chooses a setting, or of a call on the store.
+fn chosen_or_made(
+    alloc: Global,
+    settings: &mut Settings,
+    store: &mut Memory,
+    step: &[Vec<u8>],
+) -> Result<Vec<u8>, ProbeError> {
+    if choose(settings, step) {
+        return word(alloc, "ok");
     }
+    answer_step(alloc, store, step)
 }
 
 /// The script of a step that runs one.
@@ -85,6 +92,7 @@ fn script_in(step: &[Vec<u8>]) -> Option<Script<'_>> {
     };
     let whole = Script {
         text,
+        number: None,
         limit: None,
         most: usize::MAX,
         failing_read: 0,
@@ -95,6 +103,7 @@ fn script_in(step: &[Vec<u8>]) -> Option<Script<'_>> {
         "within" => within(whole, words),
         "reading" => reading(whole, words),
         "writing" => writing(whole, words),
+        "generate" => generate(whole, words),
         _ => None,
     }
 }
@@ -130,6 +139,20 @@ fn writing<'a>(script: Script<'a>, words: &[Vec<u8>]) -> Option<Script<'a>> {
     })
 }
 
+fn generate<'a>(script: Script<'a>, words: &[Vec<u8>]) -> Option<Script<'a>> {
+    let failing_write = match words {
+        [] => 0,
+        [call] => number_of(call)?,
+        _ => return None,
+    };
+    Some(Script {
+        number: Some(script.text),
+        text: b"",
+        failing_write,
+        ..script
+    })
+}
+
 /// The status of the script's run, and what it wrote.
 fn ran(
     alloc: Global,
@@ -138,7 +161,11 @@ fn ran(
 ) -> Result<Vec<u8>, ProbeError> {
     let mut input = source_of(alloc, script)?;
     let mut output = MemorySink::new(alloc, call(alloc, script.failing_write)?);
-    let status = status_of(alloc, repo, script.limit, &mut input, &mut output)?;
+    let words = words(alloc, script.number)?;
+    let status = match script.limit {
+        None => run(alloc, &words, NOW, repo, &mut input, &mut output),
+        Some(limit) => run_limited(alloc, &words, NOW, repo, &mut input, &mut output, limit),
+    };
     let mut answer = shown(alloc, &status)?;
     push_field(&mut answer, output.written())?;
     Ok(answer)
@@ -156,24 +183,22 @@ fn call(alloc: Global, number: u64) -> Result<Calls, ProbeError> {
     Ok(Calls::from_vec(calls))
 }
 
-fn status_of(
-    alloc: Global,
-    repo: &mut Repository<Memory>,
-    limit: Option<u64>,
-    input: &mut MemorySource,
-    output: &mut MemorySink,
-) -> Result<u8, ProbeError> {
-    let words = words(alloc)?;
-    match limit {
-        None => Ok(run(alloc, &words, NOW, repo, input, output)),
-        Some(limit) => Ok(run_limited(alloc, &words, NOW, repo, input, output, limit)),
-    }
-}
-
-/// The words that apply a script.
-fn words(alloc: Global) -> Result<Vec<String>, ProbeError> {
+/// The words that apply a script, or make so many commits of the generator.
+fn words(alloc: Global, number: Option<&[u8]>) -> Result<Vec<String>, ProbeError> {
     let mut words = Vec::new(alloc);
     words.push(String::from_str(alloc, "--memory")?)?;
-    words.push(String::from_str(alloc, "apply")?)?;
+    match number {
+        None => words.push(String::from_str(alloc, "apply")?)?,
+        Some(number) => push_generate(alloc, &mut words, number)?,
+    }
     Ok(words)
+}
+
+fn push_generate(alloc: Global, words: &mut Vec<String>, number: &[u8]) -> Result<(), ProbeError> {
+    let Ok(number) = str::from_utf8(number) else {
+        return Err(ProbeError::BadLine);
+    };
+    words.push(String::from_str(alloc, "generate")?)?;
+    words.push(String::from_str(alloc, number)?)?;
+    Ok(())
 }

@@ -4,7 +4,8 @@ use gx_store::{Lines, LogAct, Names, RefChange, Target, TargetChange, What};
 use std::alloc::Global;
 
 fn is_copied(part: &What) -> Result<bool, NoMemory> {
-    Ok(part.try_clone()? == *part)
+    let copy = part.try_clone()?;
+    Ok(copy == *part)
 }
 
 fn are_parts_copied(alloc: Global) -> Result<bool, NoMemory> {
@@ -62,7 +63,8 @@ fn lines_are_copied(rt: HostRuntime) {
 
 fn is_line_copied(alloc: Global) -> Result<bool, NoMemory> {
     let line = line(alloc, b"m")?;
-    Ok(is_same_line(&line.try_clone()?, &line))
+    let copy = line.try_clone()?;
+    Ok(is_same_line(&copy, &line))
 }
 
 #[test]
@@ -71,9 +73,14 @@ fn a_line_is_copied(rt: HostRuntime) {
 }
 
 fn are_targets_copied(alloc: Global) -> Result<bool, NoMemory> {
-    let object = Target::Object(HashKind::Sha1.empty_blob());
     let symbolic = Target::Symbolic(name_of(alloc, b"refs/heads/a")?);
-    Ok(object.try_clone()? == object && symbolic.try_clone()? == symbolic)
+    let object = Target::Object(HashKind::Sha1.empty_blob());
+    Ok(is_target_copied(&object)? && is_target_copied(&symbolic)?)
+}
+
+fn is_target_copied(target: &Target) -> Result<bool, NoMemory> {
+    let copy = target.try_clone()?;
+    Ok(copy == *target)
 }
 
 #[test]
@@ -107,16 +114,23 @@ fn a_change_is_copied(rt: HostRuntime) {
     assert!(rt; is_change_copied(rt.alloc()).unwrap_or(false));
 }
 
+fn are_target_changes_copied() -> Result<bool, NoMemory> {
+    let kept = TargetChange::Keep.try_clone()?;
+    let removed = TargetChange::Remove.try_clone()?;
+    Ok(matches!(kept, TargetChange::Keep) && matches!(removed, TargetChange::Remove))
+}
+
 fn are_acts_copied() -> Result<bool, NoMemory> {
-    Ok(
-        matches!(TargetChange::Keep.try_clone()?, TargetChange::Keep)
-            && matches!(TargetChange::Remove.try_clone()?, TargetChange::Remove)
-            && matches!(LogAct::Keep.try_clone()?, LogAct::Keep)
-            && matches!(LogAct::Remove.try_clone()?, LogAct::Remove),
-    )
+    let kept = LogAct::Keep.try_clone()?;
+    let removed = LogAct::Remove.try_clone()?;
+    Ok(matches!(kept, LogAct::Keep) && matches!(removed, LogAct::Remove))
+}
+
+fn are_kept_and_removed_copied() -> Result<bool, NoMemory> {
+    Ok(are_target_changes_copied()? && are_acts_copied()?)
 }
 
 #[test]
 fn what_is_kept_or_removed_is_copied(rt: HostRuntime) {
-    assert!(rt; are_acts_copied().unwrap_or(false));
+    assert!(rt; are_kept_and_removed_copied().unwrap_or(false));
 }

@@ -37,10 +37,12 @@ pub(crate) fn line(alloc: Global, message: &[u8]) -> Result<LogLine, NoMemory> {
 pub(crate) fn is_same_line(line: &LogLine, other: &LogLine) -> bool {
     line.previous == other.previous
         && line.new == other.new
-        && line.signature.name == other.signature.name
-        && line.signature.email == other.signature.email
-        && line.signature.time == other.signature.time
+        && is_same_person(&line.signature, &other.signature)
         && line.message == other.message
+}
+
+fn is_same_person(person: &Signature, other: &Signature) -> bool {
+    person.name == other.name && person.email == other.email && person.time == other.time
 }
 
 pub(crate) fn are_same_lines(lines: &[LogLine], others: &[LogLine]) -> bool {

@@ -54,34 +54,33 @@ fn parts_of_a_store_have_texts(rt: HostRuntime) {
     assert!(rt; parts(rt.alloc()).unwrap_or(false));
 }
 
+fn says_of_references(alloc: Global, error: RefError, text: &str) -> Result<bool, NoMemory> {
+    says(alloc, &error, text)
+}
+
 fn says_of_cycles(alloc: Global) -> Result<bool, NoMemory> {
     let name = name_of(alloc, b"HEAD")?;
-    says(
-        alloc,
-        &RefError::Cycle { name },
-        "HEAD leads back into itself",
-    )
+    let cycle = RefError::Cycle { name };
+    says_of_references(alloc, cycle, "HEAD leads back into itself")
 }
 
 fn says_of_depth(alloc: Global) -> Result<bool, NoMemory> {
     let name = name_of(alloc, b"HEAD")?;
     let deep = RefError::DepthLimitExceeded { name };
-    says(alloc, &deep, "HEAD leads through too many others")
+    says_of_references(alloc, deep, "HEAD leads through too many others")
 }
 
 fn says_of_faults(alloc: Global) -> Result<bool, NoMemory> {
     let what = What::Listing;
-    says(
-        alloc,
-        &RefError::Store { what },
-        "the store failed at Listing",
-    )
+    let fault = RefError::Store { what };
+    says_of_references(alloc, fault, "the store failed at Listing")
 }
 
 fn reference_errors(alloc: Global) -> Result<bool, NoMemory> {
     let are_chains_told = says_of_cycles(alloc)? && says_of_depth(alloc)?;
     let is_fault_told = says_of_faults(alloc)?;
-    Ok(are_chains_told && is_fault_told && says(alloc, &RefError::NoMemory, "out of memory")?)
+    let is_memory_told = says_of_references(alloc, RefError::NoMemory, "out of memory")?;
+    Ok(are_chains_told && is_fault_told && is_memory_told)
 }
 
 #[test]
@@ -89,21 +88,25 @@ fn errors_of_references_have_texts(rt: HostRuntime) {
     assert!(rt; reference_errors(rt.alloc()).unwrap_or(false));
 }
 
+fn says_of_edits(alloc: Global, error: EditError, text: &str) -> Result<bool, NoMemory> {
+    says(alloc, &error, text)
+}
+
 fn errors_of_reading(alloc: Global) -> Result<bool, NoMemory> {
     let id = empty_blob();
     let actual = Kind::Blob;
     Ok(
-        says(
+        says_of_edits(
             alloc,
-            &EditError::FindExistingObject { id },
+            EditError::FindExistingObject { id },
             "the object Sha1(e69de29bb2d1d6434b8b29ae775ad8c2e48c5391) is not stored",
-        )? && says(
+        )? && says_of_edits(
             alloc,
-            &EditError::ObjectKind { id, actual },
+            EditError::ObjectKind { id, actual },
             "the object Sha1(e69de29bb2d1d6434b8b29ae775ad8c2e48c5391) is a Blob and no tree",
-        )? && says(
+        )? && says_of_edits(
             alloc,
-            &EditError::Decode { id },
+            EditError::Decode { id },
             "the object Sha1(e69de29bb2d1d6434b8b29ae775ad8c2e48c5391) does not spell a tree that can be read",
         )?,
     )
@@ -118,20 +121,20 @@ fn errors_of_editing(alloc: Global) -> Result<bool, NoMemory> {
     let field = Field::FileName;
     let store = EditError::Store { what: What::Write };
     Ok(
-        says(
+        says_of_edits(
             alloc,
-            &EditError::EmptyPathComponent,
+            EditError::EmptyPathComponent,
             "a path must not have an empty component",
-        )? && says(
+        )? && says_of_edits(
             alloc,
-            &EditError::IsTree,
+            EditError::IsTree,
             "a directory is not removed as a leaf",
-        )? && says(
+        )? && says_of_edits(
             alloc,
-            &EditError::WriteObject { field },
+            EditError::WriteObject { field },
             "the field FileName cannot be written",
-        )? && says(alloc, &store, "the store failed at Write")?
-            && says(alloc, &EditError::NoMemory, "out of memory")?,
+        )? && says_of_edits(alloc, store, "the store failed at Write")?
+            && says_of_edits(alloc, EditError::NoMemory, "out of memory")?,
     )
 }
 

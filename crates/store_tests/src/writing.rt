@@ -14,10 +14,20 @@ use std::alloc::Global;
 
 fn objects(alloc: Global) -> Result<Vec<(Kind, Bytes)>, NoMemory> {
     let mut objects = Vec::new(alloc);
-    objects.push((Kind::Blob, Bytes::from_slice(alloc, b"a")?))?;
-    objects.push((Kind::Tree, Bytes::new(alloc)))?;
-    objects.push((Kind::Blob, Bytes::from_slice(alloc, b"b")?))?;
+    push_object(alloc, &mut objects, Kind::Blob, b"a")?;
+    push_object(alloc, &mut objects, Kind::Tree, b"")?;
+    push_object(alloc, &mut objects, Kind::Blob, b"b")?;
     Ok(objects)
+}
+
+fn push_object(
+    alloc: Global,
+    objects: &mut Vec<(Kind, Bytes)>,
+    kind: Kind,
+    bytes: &[u8],
+) -> Result<(), NoMemory> {
+    let bytes = Bytes::from_slice(alloc, bytes)?;
+    Ok(objects.push((kind, bytes))?)
 }
 
 /// How many of the three objects are there, where each stands before the next: 9 where not. The ids are those of

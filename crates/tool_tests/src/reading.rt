@@ -7,7 +7,7 @@ use gx_store::{MemorySource, Source};
 use std::alloc::Global;
 
 /// How many requests were read, and the error after them.
-#[derive(Clone, Copy, Debug, PartialEq, Eq)]
+#[derive(Clone, Copy, PartialEq)]
 struct Outcome {
     requests: u64,
     error: Option<ScriptError>,
@@ -35,7 +35,8 @@ fn read_on(reader: &mut ScriptReader, input: &mut MemorySource) -> Outcome {
 
 /// Reads both commits, in pieces of at most this many bytes, from a source of which a call fails.
 fn read(alloc: Global, most: usize, failing: u64) -> Result<Outcome, NoMemory> {
-    let mut input = source(alloc, &both(alloc)?, most, failing)?;
+    let script = both(alloc)?;
+    let mut input = source(alloc, &script, most, failing)?;
     let mut reader = ScriptReader::new(alloc, HashKind::Sha1, 1000)?;
     Ok(read_on(&mut reader, &mut input))
 }
@@ -46,7 +47,8 @@ fn is_read_in_all_pieces(alloc: Global) -> Result<bool, NoMemory> {
         error: None,
     };
     for most in 1..FIRST.len().saturating_add(SECOND.len()) {
-        if read(alloc, most, 0)? != whole {
+        let outcome = read(alloc, most, 0)?;
+        if outcome != whole {
             return Ok(false);
         }
     }
@@ -77,7 +79,8 @@ fn cut_after(taken: u64) -> Outcome {
 fn fails_at_each(alloc: Global, most: usize, calls: u64) -> Result<bool, NoMemory> {
     for call in 1..=calls {
         let taken = call.saturating_sub(1).saturating_mul(most as u64);
-        if read(alloc, most, call)? != cut_after(taken) {
+        let outcome = read(alloc, most, call)?;
+        if outcome != cut_after(taken) {
             return Ok(false);
         }
     }

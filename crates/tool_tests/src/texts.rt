@@ -30,10 +30,9 @@ fn script_errors_show(alloc: Global) -> Result<bool, NoMemory> {
 }
 
 fn values_log(alloc: Global) -> Result<bool, NoMemory> {
-    Ok(
-        logs(alloc, &Order::NewestFrom(-5), "NewestFrom(-5)")?
-            && logs(alloc, &NameSet::AllTags, "AllTags")?,
-    )
+    let is_order_logged = logs(alloc, &Order::NewestFrom(-5), "NewestFrom(-5)")?;
+    let is_set_logged = logs(alloc, &NameSet::AllTags, "AllTags")?;
+    Ok(is_order_logged && is_set_logged)
 }
 
 fn scripts_show(alloc: Global) -> Result<bool, NoMemory> {
@@ -67,6 +66,11 @@ fn name(alloc: Global) -> Result<FullName, NoMemory> {
     }
 }
 
+fn target(alloc: Global) -> Result<Target, NoMemory> {
+    let name = name(alloc)?;
+    Ok(Target::Symbolic(name))
+}
+
 fn is_shown(alloc: Global, error: CommitEditsError, text: &str) -> Result<bool, NoMemory> {
     shows(alloc, &error, text)
 }
@@ -86,17 +90,20 @@ fn object_errors_show(alloc: Global) -> Result<bool, NoMemory> {
 }
 
 fn a_cycle_shows(alloc: Global) -> Result<bool, NoMemory> {
-    let cycle = CommitEditsError::Cycle { name: name(alloc)? };
+    let name = name(alloc)?;
+    let cycle = CommitEditsError::Cycle { name };
     is_shown(alloc, cycle, "the reference leads back into itself")
 }
 
 fn a_deep_chain_shows(alloc: Global) -> Result<bool, NoMemory> {
-    let deep = CommitEditsError::DepthLimitExceeded { name: name(alloc)? };
+    let name = name(alloc)?;
+    let deep = CommitEditsError::DepthLimitExceeded { name };
     is_shown(alloc, deep, "the reference leads through too many others")
 }
 
 fn an_absent_name_shows(alloc: Global) -> Result<bool, NoMemory> {
-    let absent = CommitEditsError::MustExist { name: name(alloc)? };
+    let name = name(alloc)?;
+    let absent = CommitEditsError::MustExist { name };
     is_shown(alloc, absent, "the reference does not exist")
 }
 
@@ -105,27 +112,32 @@ fn chain_errors_show(alloc: Global) -> Result<bool, NoMemory> {
 }
 
 fn an_existing_name_shows(alloc: Global) -> Result<bool, NoMemory> {
-    let there = CommitEditsError::MustNotExist {
-        name: name(alloc)?,
-        actual: Target::Symbolic(name(alloc)?),
-    };
+    let actual = target(alloc)?;
+    let name = name(alloc)?;
+    let there = CommitEditsError::MustNotExist { name, actual };
     is_shown(alloc, there, "the reference exists")
 }
 
+fn late_commit(alloc: Global, expected: Target) -> Result<CommitEditsError, NoMemory> {
+    let actual = target(alloc)?;
+    let name = name(alloc)?;
+    Ok(CommitEditsError::ReferenceOutOfDate {
+        name,
+        expected,
+        actual,
+    })
+}
+
 fn a_late_commit_shows(alloc: Global) -> Result<bool, NoMemory> {
-    let late = CommitEditsError::ReferenceOutOfDate {
-        name: name(alloc)?,
-        expected: Target::Symbolic(name(alloc)?),
-        actual: Target::Symbolic(name(alloc)?),
-    };
+    let expected = target(alloc)?;
+    let late = late_commit(alloc, expected)?;
     is_shown(alloc, late, "the reference names another object")
 }
 
 fn a_conflict_shows(alloc: Global) -> Result<bool, NoMemory> {
-    let beside = CommitEditsError::NameConflict {
-        name: name(alloc)?,
-        other: name(alloc)?,
-    };
+    let other = name(alloc)?;
+    let name = name(alloc)?;
+    let beside = CommitEditsError::NameConflict { name, other };
     is_shown(alloc, beside, "the reference can't stand beside another")
 }
 

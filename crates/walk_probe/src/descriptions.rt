@@ -1,11 +1,11 @@
 //! Rows on descriptions: `describe MOST DIGITS COMMIT .. tips LABEL names LABEL:NAME ..`, with the most candidates and
-//! the number of digits of an id. Commits are those of rows of walks, and so are the words `shallow` and `first`. The
-//! word `fallback` asks for the id where there is no name, and `long` for the long text.
+//! the number of digits of an id. The commits are those of `history.rt`, and the words `shallow` and `first` are those
+//! of rows of walks. The word `fallback` asks for the id where there is no name, and `long` for the long text.
 //!
-//! The answer is the text, and where it is printed in another way also that; `exact` stands behind it where the depth
+//! The answer is the text, and where it is printed in another way also that; `exact` stands after it where the depth
 //! is 0. Without a description it is `none`.
 
-use crate::history::{History, fields_behind, history_of, id_of, ids_behind, push_error};
+use crate::history::{History, fields_after, has_word, history_of, id_of, ids_after, push_error};
 use gx_hash::Bytes;
 use gx_walk::Graph;
 use gx_walk::describe::{NameMap, Options, Outcome, describe};
@@ -41,8 +41,8 @@ fn described(
     options: Options,
     digits: usize,
 ) -> Result<Vec<u8>, ProbeError> {
-    let shallow = ids_behind(alloc, history, fields, b"shallow")?;
-    let tips = fields_behind(alloc, fields, b"tips")?;
+    let shallow = ids_after(alloc, history, fields, b"shallow")?;
+    let tips = fields_after(alloc, fields, b"tips")?;
     let Some(tip) = tips.first() else {
         return Err(ProbeError::BadLine);
     };
@@ -70,7 +70,7 @@ fn described(
 /// The names after the word `names`, each after the label of its commit and a colon.
 fn names_in(alloc: Global, history: &History, fields: &[Vec<u8>]) -> Result<NameMap, ProbeError> {
     let mut names = NameMap::new(alloc);
-    for field in &fields_behind(alloc, fields, b"names")? {
+    for field in &fields_after(alloc, fields, b"names")? {
         let mut parts = field.splitn(2, |byte| *byte == b':');
         let label = parts.next().unwrap_or(b"");
         let name = Bytes::from_slice(alloc, parts.next().unwrap_or(b""))?;
@@ -79,11 +79,12 @@ fn names_in(alloc: Global, history: &History, fields: &[Vec<u8>]) -> Result<Name
     Ok(names)
 }
 
-fn has_word(fields: &[Vec<u8>], word: &[u8]) -> bool {
-    fields.iter().any(|field| field.as_slice() == word)
-}
-
-fn text(alloc: Global, outcome: Outcome, digits: usize, long: bool) -> Result<Vec<u8>, ProbeError> {
+pub(crate) fn text(
+    alloc: Global,
+    outcome: Outcome,
+    digits: usize,
+    long: bool,
+) -> Result<Vec<u8>, ProbeError> {
     let mut format = outcome.into_format(digits);
     format.long = long;
     let bytes = format.to_bytes(alloc)?;

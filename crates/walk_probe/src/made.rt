@@ -1,11 +1,14 @@
-//! Rows on histories and trees that are made up here, for `bench/walks.py`: `made SHAPE COUNT WORD`.
+//! Rows on histories and trees that are made up here, for `bench/`: `made SHAPE COUNT WORD`.
 //!
 //! A history is a `line` of this many commits, a `fan` (a root, commits on it, and a merge of these) or a `cross`
 //! (pairs of commits, each with both of the pair before as parents); a tree is a `bush` (each directory has ten others,
 //! as far as there are so many, and a file) or a `chain` (each has the next one). The word is `build`, which makes it
 //! and no more, `newest` or `breadth` for histories, which list all ids, each of these with `-first` behind it, which
-//! lists the first alone, or `depth` or `breadth` for trees, which count the entries.
+//! lists the first alone, or `depth` or `breadth` for trees, which count the entries. The words `bases`, `octopus` and
+//! `describe` for histories, with numbers behind them, are those of `made/queries.rt`.
 ghost use Rattle.gx_walk.specs.Visits.{Counts};
+
+mod queries;
 
 use crate::history::signature;
 use gx_hash::{Bytes, HashKind, NoMemory, ObjectId};
@@ -20,27 +23,33 @@ use std::alloc::Global;
 
 /// The answers to rows on what is made here.
 pub fn answer(alloc: Global, fields: &[Vec<u8>]) -> Result<Vec<u8>, ProbeError> {
-    let (Some(shape), Some(count), Some(word)) = (fields.get(0), fields.get(1), fields.get(2))
-    else {
+    let [shape, count, word, numbers @ ..] = fields else {
         return Err(ProbeError::BadLine);
     };
     let count = number_of(count).ok_or(ProbeError::BadLine)?;
     match shape.as_slice() {
         b"bush" | b"chain" => of_tree(alloc, shape, count, word),
-        _ => of_history(alloc, shape, count, word),
+        _ => of_history(alloc, shape, count, word, numbers),
     }
 }
 
-fn of_history(alloc: Global, shape: &[u8], count: u64, word: &[u8]) -> Result<Vec<u8>, ProbeError> {
+fn of_history(
+    alloc: Global,
+    shape: &[u8],
+    count: u64,
+    word: &[u8],
+    numbers: &[Vec<u8>],
+) -> Result<Vec<u8>, ProbeError> {
     let mut store = Memory::new(alloc, HashKind::Sha1)?;
-    let tip = make_history(alloc, &mut store, shape, count)?.ok_or(ProbeError::BadLine)?;
+    let ids = make_history(alloc, &mut store, shape, count)?;
+    let tip = ids.last().copied().ok_or(ProbeError::BadLine)?;
     match word {
         b"build" => hex(alloc, &tip),
         b"newest" => listed(alloc, &store, tip, newest(), u64::MAX),
         b"newest-first" => listed(alloc, &store, tip, newest(), 1),
         b"breadth" => listed(alloc, &store, tip, Sorting::BreadthFirst, u64::MAX),
         b"breadth-first" => listed(alloc, &store, tip, Sorting::BreadthFirst, 1),
-        _ => Err(ProbeError::BadLine),
+        _ => queries::answer(alloc, &store, &ids, word, numbers),
     }
 }
 
@@ -70,20 +79,20 @@ fn listed(
     Ok(answer)
 }
 
-/// Makes the commits of a history, the last of which reaches all.
+/// Makes the commits of a history, the last of which reaches all (in a `cross`, if the number is even).
 fn make_history(
     alloc: Global,
     store: &mut Memory,
     shape: &[u8],
     count: u64,
-) -> Result<Option<ObjectId>, ProbeError> {
+) -> Result<Vec<ObjectId>, ProbeError> {
     let mut ids = Vec::new(alloc);
     for number in 0..count {
         let parents = parents_of(shape, number, count);
         let bytes = commit_bytes(alloc, &ids, number, parents)?;
         ids.push(put(alloc, store, Kind::Commit, bytes.as_slice())?)?;
     }
-    Ok(ids.last().copied())
+    Ok(ids)
 }
 
 /// The numbers of a commit's parents: from the first of the pair, and below the second.

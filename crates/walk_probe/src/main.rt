@@ -4,9 +4,12 @@
 
 mod bases;
 mod descriptions;
+mod errors;
 mod history;
 mod made;
+mod maps;
 mod trees;
+mod walks;
 
 use bases::Call;
 use probe_rows::{Answer, ProbeError, answer_rows};
@@ -19,7 +22,7 @@ const FAILED: u8 = 3;
 
 fn main(rt: HostRuntime) -> ExitCode {
     ExitCode::from(
-        match answer_rows(rt.alloc(), &Walks, rt.reader(), io::writer(&rt)) {
+        match answer_rows(rt.alloc(), &Library, rt.reader(), io::writer(&rt)) {
             Ok(()) => 0,
             Err(_) => FAILED,
         },
@@ -27,15 +30,17 @@ fn main(rt: HostRuntime) -> ExitCode {
 }
 
 /// The library that walks over histories.
-struct Walks;
+struct Library;
 
-impl Answer for Walks {
+impl Answer for Library {
     fn answer(&self, alloc: Global, call: &str, fields: &[Vec<u8>]) -> Result<Vec<u8>, ProbeError> {
         match call {
             "describe" => descriptions::answer(alloc, fields),
             "bases" => bases::answer(alloc, Call::Bases, fields),
             "octopus" => bases::answer(alloc, Call::Octopus, fields),
-            "walk" => history::answer(alloc, fields),
+            "graph" => maps::graph(alloc, fields),
+            "name_map" => maps::name_map(alloc, fields),
+            "walk" => walks::answer(alloc, fields),
             "made" => made::answer(alloc, fields),
             "traverse" => trees::answer(alloc, fields),
             _ => Err(ProbeError::UnknownCall),

@@ -1,61 +1,33 @@
-//! Rows on traversals of trees: `traverse ORDER TREE .. root LABEL`, and then `skip` or `cancel`, each with paths
-//! behind it.
+//! Rows on traversals of trees: `traverse ORDER TREE .. root LABEL`, and then words with what they say after them.
 //!
 //! The order is `depth` or `breadth`. A tree is `LABEL:` and its entries, with commas between them: `NAME` is a file,
-//! and `NAME>LABEL` a tree. `LABEL:blob` is a blob, and `LABEL:bad` a tree that spells none. The id of an object is the
-//! digest of its label, so that a tree can contain itself. The answer has the paths that are visited, with a slash
-//! behind those that are shown as trees, and behind them the error, if there is one.
-ghost use Rattle.std.specs.Prelude.{◌≡◌, IfOk, OnErr};
-ghost use Rattle.gx_walk.specs.Visits.{Counts};
+//! `NAME>LABEL` a tree, `NAME@LABEL` a submodule and `NAME~LABEL` a symbolic link. `LABEL:blob` is a blob, and
+//! `LABEL:bad` a tree that spells none. The id of an object is the digest of its label, so that a tree can contain
+//! itself; `EMPTY` is the empty tree, which no field has to spell.
+//!
+//! The visitor skips the paths after `skip`, and cancels at those after `cancel`. The objects after `broken` can't be
+//! read, and `sha256` asks for ids of that kind. The answer has the paths that are visited, with a slash after those
+//! that are shown as trees, and after them the error, if there is one. With `record` a `Recorder` is shown the entries,
+//! and the answer has the mode, the path and the id of each, by its label (`file` for those of files).
 
-use gx_hash::{HashKind, NoMemory, ObjectId, object_id};
-use gx_object::{EntryRef, Kind};
+mod lister;
+
+use crate::errors::named_in;
+use gx_hash::{HashKind, ObjectId, object_id};
+use gx_object::Kind;
 use gx_store::{Memory, Objects};
-use gx_walk::{Action, Visit, WalkError, breadthfirst, depthfirst};
+use gx_walk::{Record, Recorder, Visit, WalkError, breadthfirst, depthfirst};
+use lister::Lister;
 use probe_rows::ProbeError;
 use probe_rows::answers::{push_field, push_word};
 use std::alloc::Global;
 
-/// Lists the paths that it is shown, and answers what the row says of each.
+/// Trees, and the first one.
 #[derive(Drop)]
-struct Lister<'r> {
-    fields: &'r [Vec<u8>],
-    answer: Vec<u8>,
-    cancels: u64,
-}
-
-impl<'r> Lister<'r> {
-    fn show(&mut self, path: &[u8], end: &str) -> Result<Action, NoMemory>
-        ensures ok { IfOk result (λ action. Counts action self.old.cancels self.new.cancels) }
-        ensures leaves { OnErr result (self.new.cancels ≡ self.old.cancels) }
-    {
-        push_field(&mut self.answer, path).map_err(|_| NoMemory)?;
-        self.answer.extend_from_slice(end.as_bytes())?;
-        if is_behind(self.fields, b"cancel", path) {
-            self.cancels = self.cancels.saturating_add(1);
-            return Ok(Action::Cancel);
-        }
-        if is_behind(self.fields, b"skip", path) {
-            return Ok(Action::Skip);
-        }
-        Ok(Action::Continue)
-    }
-}
-
-impl<'r> Visit for Lister<'r> {
-    ghost use Rattle.std.specs.Prelude.{None};
-
-    ghost visits = { λ _. None };
-
-    ghost cancels = { λ lister. lister.cancels };
-
-    fn visit_tree(&mut self, path: &[u8], _entry: &EntryRef<'_>) -> Result<Action, NoMemory> {
-        self.show(path, "/")
-    }
-
-    fn visit_nontree(&mut self, path: &[u8], _entry: &EntryRef<'_>) -> Result<Action, NoMemory> {
-        self.show(path, "")
-    }
+struct Forest {
+    store: Memory,
+    root: ObjectId,
+    bytes: Vec<u8>,
 }
 
 /// The answers to rows on traversals.
@@ -63,42 +35,132 @@ pub fn answer(alloc: Global, fields: &[Vec<u8>]) -> Result<Vec<u8>, ProbeError> 
     let Some((order, fields)) = fields.split_first() else {
         return Err(ProbeError::BadLine);
     };
-    traverse(alloc, order, fields)
-}
-
-fn traverse(alloc: Global, order: &[u8], fields: &[Vec<u8>]) -> Result<Vec<u8>, ProbeError> {
-    let store = store_of(alloc, fields)?;
-    let root = root_of(fields).ok_or(ProbeError::BadLine)?;
-    let Some((_, bytes)) = store.read(alloc, &id_of(root))? else {
-        return Err(ProbeError::BadLine);
+    let forest = forest_of(alloc, fields)?;
+    let mut answer = if has_word(fields, b"record") {
+        recorded(alloc, &forest, order, fields)?
+    } else {
+        listed(alloc, &forest, order, fields)?
     };
-    let mut lister = Lister {
-        fields,
-        answer: Vec::new(alloc),
-        cancels: 0,
-    };
-    let ended = match order {
-        b"depth" => depthfirst(alloc, &store, id_of(root), bytes.as_slice(), &mut lister),
-        b"breadth" => breadthfirst(alloc, &store, id_of(root), bytes.as_slice(), &mut lister),
-        _ => return Err(ProbeError::BadLine),
-    };
-    let mut answer = lister.answer;
-    if let Err(error) = ended {
-        push_error(&mut answer, fields, error)?;
-    }
     if answer.is_empty() {
         push_word(&mut answer, "none")?;
     }
     Ok(answer)
 }
 
+/// The paths that are visited.
+fn listed(
+    alloc: Global,
+    forest: &Forest,
+    order: &[u8],
+    fields: &[Vec<u8>],
+) -> Result<Vec<u8>, ProbeError> {
+    let mut lister = Lister::new(alloc, fields);
+    let ended = traverse(alloc, forest, order, &mut lister);
+    let mut answer = lister.into_answer();
+    push_end(&mut answer, forest, fields, ended)?;
+    Ok(answer)
+}
+
+/// The entries that are recorded.
+fn recorded(
+    alloc: Global,
+    forest: &Forest,
+    order: &[u8],
+    fields: &[Vec<u8>],
+) -> Result<Vec<u8>, ProbeError> {
+    let mut recorder = Recorder::new(alloc);
+    let ended = traverse(alloc, forest, order, &mut recorder);
+    let mut answer = Vec::new(alloc);
+    for record in &recorder.records {
+        push_record(&mut answer, forest, fields, record)?;
+    }
+    push_end(&mut answer, forest, fields, ended)?;
+    Ok(answer)
+}
+
+fn traverse<V: Visit>(
+    alloc: Global,
+    forest: &Forest,
+    order: &[u8],
+    visit: &mut V,
+) -> Result<(), WalkError> {
+    match order {
+        b"breadth" => breadthfirst(alloc, &forest.store, forest.root, &forest.bytes, visit),
+        _ => depthfirst(alloc, &forest.store, forest.root, &forest.bytes, visit),
+    }
+}
+
+// ---- answers
+
+fn push_record(
+    answer: &mut Vec<u8>,
+    forest: &Forest,
+    fields: &[Vec<u8>],
+    record: &Record,
+) -> Result<(), ProbeError> {
+    push_word(answer, record.mode.kind().as_octal_str())?;
+    push_field(answer, record.filepath.as_slice())?;
+    push_label(answer, forest, fields, &record.oid)
+}
+
+/// Appends why the traversal ended early, if it did.
+fn push_end(
+    answer: &mut Vec<u8>,
+    forest: &Forest,
+    fields: &[Vec<u8>],
+    ended: Result<(), WalkError>,
+) -> Result<(), ProbeError> {
+    let Err(error) = ended else {
+        return Ok(());
+    };
+    if matches!(error, WalkError::Cancelled) {
+        return push_word(answer, "cancelled");
+    }
+    let Some((word, id)) = named_in(&error) else {
+        return Err(ProbeError::NoMemory);
+    };
+    push_word(answer, word)?;
+    push_label(answer, forest, fields, id)
+}
+
+/// Appends the label in the fields that the id is of.
+fn push_label(
+    answer: &mut Vec<u8>,
+    forest: &Forest,
+    fields: &[Vec<u8>],
+    id: &ObjectId,
+) -> Result<(), ProbeError> {
+    let hash = forest.store.hash_kind();
+    if *id == ObjectId::empty_blob(hash) {
+        return push_word(answer, "file");
+    }
+    for field in fields {
+        for label in field.split(|byte| b":,>@~".contains(byte)) {
+            if id_of(hash, label) == *id {
+                return push_field(answer, label);
+            }
+        }
+    }
+    push_word(answer, "unknown")
+}
+
+// ---- words
+
 /// Whether the field is a word that ends what stands before it.
 fn is_word(field: &[u8]) -> bool {
-    matches!(field, b"root" | b"skip" | b"cancel")
+    matches!(
+        field,
+        b"root" | b"skip" | b"cancel" | b"record" | b"broken" | b"sha256"
+    )
+}
+
+/// Whether one of the fields is the word.
+fn has_word(fields: &[Vec<u8>], word: &[u8]) -> bool {
+    fields.iter().any(|field| field.as_slice() == word)
 }
 
 /// Whether the text is among the fields between a word and the next one.
-fn is_behind(fields: &[Vec<u8>], word: &[u8], text: &[u8]) -> bool {
+fn is_after(fields: &[Vec<u8>], word: &[u8], text: &[u8]) -> bool {
     let mut is_here = false;
     for field in fields {
         if is_word(field) {
@@ -118,19 +180,23 @@ fn root_of(fields: &[Vec<u8>]) -> Option<&[u8]> {
     Some(fields.get(place.checked_add(1)?)?.as_slice())
 }
 
-fn id_of(label: &[u8]) -> ObjectId {
-    object_id(HashKind::Sha1, b"tree", label)
+// ---- trees
+
+fn id_of(hash: HashKind, label: &[u8]) -> ObjectId {
+    match label {
+        b"EMPTY" => ObjectId::empty_tree(hash),
+        _ => object_id(hash, b"tree", label),
+    }
 }
 
-/// The label in front of a colon, and what follows it.
-fn parts_of(field: &[u8]) -> Option<(&[u8], &[u8])> {
-    let mut parts = field.splitn(2, |byte| *byte == b':');
-    Some((parts.next()?, parts.next()?))
-}
-
-/// The objects that the fields before the first word spell.
-fn store_of(alloc: Global, fields: &[Vec<u8>]) -> Result<Memory, ProbeError> {
-    let mut store = Memory::new(alloc, HashKind::Sha1)?;
+/// The trees that the fields before the first word spell.
+fn forest_of(alloc: Global, fields: &[Vec<u8>]) -> Result<Forest, ProbeError> {
+    let hash = if has_word(fields, b"sha256") {
+        HashKind::Sha256
+    } else {
+        HashKind::Sha1
+    };
+    let mut store = Memory::new(alloc, hash)?;
     for field in fields {
         if is_word(field) {
             break;
@@ -138,41 +204,77 @@ fn store_of(alloc: Global, fields: &[Vec<u8>]) -> Result<Memory, ProbeError> {
         let (label, entries) = parts_of(field).ok_or(ProbeError::BadLine)?;
         put(alloc, &mut store, label, entries)?;
     }
-    Ok(store)
+    let root = id_of(hash, root_of(fields).ok_or(ProbeError::BadLine)?);
+    let bytes = bytes_of(alloc, &store, &root)?;
+    break_named(&mut store, fields)?;
+    Ok(Forest { store, root, bytes })
+}
+
+/// The label before a colon, and what follows it.
+fn parts_of(field: &[u8]) -> Option<(&[u8], &[u8])> {
+    let mut parts = field.splitn(2, |byte| *byte == b':');
+    Some((parts.next()?, parts.next()?))
+}
+
+/// The bytes at an id. The empty tree has none.
+fn bytes_of(alloc: Global, store: &Memory, id: &ObjectId) -> Result<Vec<u8>, ProbeError> {
+    if *id == ObjectId::empty_tree(store.hash_kind()) {
+        return Ok(Vec::new(alloc));
+    }
+    let found = store.read(alloc, id)?;
+    let Some((_, bytes)) = found else {
+        return Err(ProbeError::BadLine);
+    };
+    Ok(bytes.into_vec())
+}
+
+/// Breaks the objects after the word `broken`.
+fn break_named(store: &mut Memory, fields: &[Vec<u8>]) -> Result<(), ProbeError> {
+    let hash = store.hash_kind();
+    for field in fields {
+        if is_after(fields, b"broken", field) {
+            store.break_object(id_of(hash, field))?;
+        }
+    }
+    Ok(())
 }
 
 fn put(alloc: Global, store: &mut Memory, label: &[u8], entries: &[u8]) -> Result<(), ProbeError> {
-    let id = id_of(label);
+    let hash = store.hash_kind();
+    let id = id_of(hash, label);
     match entries {
         b"blob" => store.put_raw(id, Kind::Blob, label)?,
         b"bad" => store.put_raw(id, Kind::Tree, label)?,
-        _ => store.put_raw(id, Kind::Tree, &tree_bytes(alloc, entries)?)?,
+        _ => {
+            let bytes = tree_bytes(alloc, hash, entries)?;
+            store.put_raw(id, Kind::Tree, &bytes)?;
+        }
     }
     Ok(())
 }
 
 /// The bytes of a tree with these entries, in this order.
-fn tree_bytes(alloc: Global, entries: &[u8]) -> Result<Vec<u8>, ProbeError> {
+fn tree_bytes(alloc: Global, hash: HashKind, entries: &[u8]) -> Result<Vec<u8>, ProbeError> {
     let mut bytes = Vec::new(alloc);
     for entry in entries.split(|byte| *byte == b',') {
         if !entry.is_empty() {
-            push_entry(&mut bytes, entry)?;
+            push_entry(&mut bytes, hash, entry)?;
         }
     }
     Ok(bytes)
 }
 
-fn push_entry(bytes: &mut Vec<u8>, entry: &[u8]) -> Result<(), ProbeError> {
-    let mut parts = entry.splitn(2, |byte| *byte == b'>');
-    let name = parts.next().unwrap_or(b"");
-    match parts.next() {
-        Some(label) => push_parts(bytes, b"40000 ", name, &id_of(label)),
-        None => push_parts(
-            bytes,
-            b"100644 ",
-            name,
-            &ObjectId::empty_blob(HashKind::Sha1),
-        ),
+fn push_entry(bytes: &mut Vec<u8>, hash: HashKind, entry: &[u8]) -> Result<(), ProbeError> {
+    let place = entry.iter().position(|byte| b">@~".contains(byte));
+    let Some((name, [sign, label @ ..])) = place.and_then(|place| entry.split_at_checked(place))
+    else {
+        return push_parts(bytes, b"100644 ", entry, &ObjectId::empty_blob(hash));
+    };
+    let id = id_of(hash, label);
+    match sign {
+        b'@' => push_parts(bytes, b"160000 ", name, &id),
+        b'~' => push_parts(bytes, b"120000 ", name, &id),
+        _ => push_parts(bytes, b"40000 ", name, &id),
     }
 }
 
@@ -186,36 +288,4 @@ fn push_parts(
     bytes.extend_from_slice(name)?;
     bytes.push(0)?;
     Ok(bytes.extend_from_slice(id.as_bytes())?)
-}
-
-fn push_error(
-    answer: &mut Vec<u8>,
-    fields: &[Vec<u8>],
-    error: WalkError,
-) -> Result<(), ProbeError> {
-    match error {
-        WalkError::Cancelled => push_word(answer, "cancelled"),
-        WalkError::Missing { .. } => push_word(answer, "missing"),
-        WalkError::NotATree { id } => push_named(answer, fields, "not-a-tree", &id),
-        WalkError::Decode { id } => push_named(answer, fields, "decode", &id),
-        WalkError::TreeCycle { id } => push_named(answer, fields, "cycle", &id),
-        _ => Err(ProbeError::NoMemory),
-    }
-}
-
-fn push_named(
-    answer: &mut Vec<u8>,
-    fields: &[Vec<u8>],
-    word: &str,
-    id: &ObjectId,
-) -> Result<(), ProbeError> {
-    push_word(answer, word)?;
-    for field in fields {
-        if let Some((label, _)) = parts_of(field)
-            && id_of(label) == *id
-        {
-            return push_field(answer, label);
-        }
-    }
-    push_word(answer, "unknown")
 }

@@ -89,7 +89,7 @@ impl<'s, S: Objects, F: Filter> Simple<'s, S, F> {
         Simple::fresh(alloc, store, filter, WalkOptions { parents, ..options })
     }
 
-    /// The same walk without what these ids reach.
+    /// The same walk without what these ids reach, in place of those that were hidden before.
     pub fn hide(self, hidden: Ids) -> Simple<'s, S, F>
         ensures { result ≡ fresh self.entry.store self.entry.filter (record self.entry.options { hidden = hidden }) }
     {
@@ -97,7 +97,7 @@ impl<'s, S: Objects, F: Filter> Simple<'s, S, F> {
         Simple::fresh(alloc, store, filter, WalkOptions { hidden, ..options })
     }
 
-    /// The same walk, which neither lists these ids nor follows their parents.
+    /// The same walk, which neither lists these ids nor follows their parents. Another boundary is replaced.
     pub fn boundary(self, boundary: Ids) -> Simple<'s, S, F>
         ensures { result ≡ fresh self.entry.store self.entry.filter
             (record self.entry.options { boundary = boundary }) }
@@ -114,7 +114,7 @@ impl<'s, S: Objects, F: Filter> Simple<'s, S, F> {
         )
     }
 
-    /// The same walk in a history in which these commits have no parents.
+    /// The same walk in a history in which these commits, and no others, lack the parents that they were made with.
     pub fn shallow(self, shallow: Ids) -> Simple<'s, S, F>
         ensures { result ≡ fresh self.entry.store self.entry.filter (record self.entry.options { shallow = shallow }) }
     {

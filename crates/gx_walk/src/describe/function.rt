@@ -1,9 +1,9 @@
 //! The search for the description of a commit.
 
-ghost use Rattle.std.specs.Prelude.{◌≡◌, [], ◌∷◌, IfOk, IfErr, OnOk, IsSome};
+ghost use Rattle.std.specs.Prelude.{◌≡◌, ◌≢◌, ℕ, false, List, Some, IfOk, IfErr, OnOk, IsSome, MatchOption};
 ghost use Rattle.gx_walk.specs.Causes.{CommitCauses};
-ghost use Rattle.gx_walk.specs.Describe.{bare, followed_by, IsByCandidates, IsDescription};
-ghost use Rattle.gx_walk.specs.History.{Told, Reaches, time_of};
+ghost use Rattle.gx_walk.specs.Describe.{bare, IsByCandidates, IsDescription, IsReadForDescription};
+ghost use Rattle.gx_walk.specs.History.{Told, time_of};
 ghost use Rattle.gx_hash.specs.ObjectIds.{has_id};
 ghost use Rattle.gx_walk.specs.NameMap.{name_of};
 ghost use Rattle.gx_walk.specs.Search.{follow, IsReached};
@@ -40,8 +40,12 @@ pub fn describe<S: Objects>(
         IsDescription history (has_id shallow.now) options id answer)) }
     ensures commit { OnOk result (Told (S.state store.now) (λ history. IsSome (history id))) }
     ensures graph { graph.new ≡ graph.old }
-    ensures causes { IfErr result (CommitCauses (S.state store.now) (λ one. Told (S.state store.now) (λ history.
-        Reaches (followed_by history options (has_id shallow.now)) (id ∷ []) one))) }
+    ensures own { (name : List ℕ) → name_of options.names id ≡ Some name
+        → IfOk result (λ answer. answer ≡ Some (record { name = Some name; id = id; depth = 0 })) }
+    ensures always { IfOk result (λ answer.
+        MatchOption answer (options.fallback ≡ false) (λ outcome. outcome.id ≡ id)) }
+    ensures causes { IfErr result (CommitCauses (S.state store.now)
+        (IsReadForDescription (S.state store.now) (has_id shallow.now) options id)) }
 {
     read_commit(alloc, store, id)?;
     if let Some(name) = name(&options.names, &id)? {
@@ -68,9 +72,14 @@ fn by_nearest<S: Objects>(
 ) -> Result<Option<Outcome>, WalkError>
     ensures ok { IfOk result (λ answer. Told (S.state store.now) (λ history.
         IsByCandidates (follow history search.now) (time_of history) options.now search.now.id answer)) }
-    ensures causes { IfErr result (CommitCauses (S.state store.now) (λ one. Told (S.state store.now) (λ history.
-        IsReached history search.now one))) }
+    ensures always { IfOk result (λ answer.
+        MatchOption answer (options.now.fallback ≡ false) (λ outcome. outcome.id ≡ search.now.id)) }
+    ensures causes { IfErr result (CommitCauses (S.state store.now) (λ one. (options.now.max_candidates ≢ 0)
+        × Told (S.state store.now) (λ history. IsReached history search.now one))) }
 {
+    if options.max_candidates == 0 {
+        return Ok(bare(options.fallback, search.id));
+    }
     let candidates = search.candidates(alloc, store, &options.names, options.max_candidates)?;
     match search.nearest(alloc, store, &candidates)? {
         Some(nearest) => Ok(Some(Outcome {

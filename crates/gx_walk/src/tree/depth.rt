@@ -15,8 +15,8 @@ use std::alloc::Global;
 /// Visits every entry at or below the tree with this id and these bytes. The entries of a subtree come right after the
 /// subtree's own entry.
 ///
-/// It takes no more of the call stack for a deep tree, and to enter a tree costs the logarithm of its depth at most:
-/// the ids of the trees that contain it are kept in order.
+/// It takes no more of the call stack for a deep tree. To look whether a tree contains itself costs the logarithm of
+/// its depth: the ids of the trees that contain it are kept in order.
 pub fn depthfirst<S: Objects, V: Visit>(
     alloc: Global,
     store: &S,

@@ -1,9 +1,9 @@
 //! Visitors of the entries of trees.
 
-ghost use Rattle.std.specs.Prelude.{◌≡◌, ◌↔◌, ℕ, List, Option, IfOk, OnErr, IsTrue};
+ghost use Rattle.std.specs.Prelude.{◌≡◌, ◌↔◌, ℕ, true, false, List, Option, IfOk, OnErr, IsTrue};
 ghost use Rattle.gx_object.specs.TreeSpelling.{entry_of};
 ghost use Rattle.gx_walk.specs.Traversal.{is_entered};
-ghost use Rattle.gx_walk.specs.Visits.{TreeVisit, visit_of, Answered};
+ghost use Rattle.gx_walk.specs.Visits.{TreeVisit, visit_of, Answered, EndsWithName, IsShown};
 
 use bstr::BStr;
 use gx_hash::NoMemory;
@@ -28,8 +28,10 @@ pub trait Visit {
     /// How often it has answered `Cancel`.
     ghost cancels: { Self → ℕ };
 
-    /// Visits an entry that is a tree. The path is whole, and names are separated by slashes.
+    /// Visits an entry that is a tree. The path is whole, names are separated by slashes, and the last one is the
+    /// entry's own.
     fn visit_tree(&mut self, path: &[u8], entry: &EntryRef<'_>) -> Result<Action, NoMemory>
+        requires { IsShown path.now (entry_of entry.now) true }
         ensures ok { IfOk result (λ answer. Answered (visit_of path.now (entry_of entry.now) answer)
             (Self.visits self.old) (Self.visits self.new) (Self.cancels self.old) (Self.cancels self.new)) }
         ensures leaves { OnErr result (Self.visits self.new ≡ Self.visits self.old) }
@@ -37,6 +39,7 @@ pub trait Visit {
 
     /// Visits any other entry.
     fn visit_nontree(&mut self, path: &[u8], entry: &EntryRef<'_>) -> Result<Action, NoMemory>
+        requires { IsShown path.now (entry_of entry.now) false }
         ensures ok { IfOk result (λ answer. Answered (visit_of path.now (entry_of entry.now) answer)
             (Self.visits self.old) (Self.visits self.new) (Self.cancels self.old) (Self.cancels self.new)) }
         ensures leaves { OnErr result (Self.visits self.new ≡ Self.visits self.old) }
@@ -49,6 +52,7 @@ pub(super) fn visit_entry<V: Visit>(
     path: &[u8],
     entry: &Entry,
 ) -> Result<Action, NoMemory>
+    requires { EndsWithName path.now entry.now }
     ensures ok { IfOk result (λ answer. Answered (visit_of path.now entry.now answer)
         (V.visits visit.old) (V.visits visit.new) (V.cancels visit.old) (V.cancels visit.new)) }
     ensures leaves { OnErr result (V.visits visit.new ≡ V.visits visit.old) }

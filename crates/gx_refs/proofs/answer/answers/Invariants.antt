@@ -1,5 +1,5 @@
 use Rattle.std.proofs.Common.{◌≡◌, take}
-use Rattle.gx_refs.specs.Answer.{answers}
+use Rattle.gx_refs.specs.Answering.{answers}
 use Rattle.gx_refs.proofs.answer.answers.Given as goal
 
 -- the answer of the edits so far

@@ -1,5 +1,5 @@
 use Rattle.std.proofs.Common.{◌≡◌, ◌++◌, ◌∷◌, drop}
-use Rattle.gx_refs.specs.Answer.{answers_before}
+use Rattle.gx_refs.specs.Answering.{answers_before}
 use Rattle.gx_refs.proofs.answer.answers_before.Given as goal
 
 -- the answer so far, and that from the place on

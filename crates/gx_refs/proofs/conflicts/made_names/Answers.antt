@@ -1,5 +1,4 @@
-use Rattle.std.proofs.Common.{rules, sym, subst, take, ◌∙◌}
-use Rattle.gx_refs.specs.Seen.{HasMade}
+use Rattle.std.proofs.Common.{rules, sym, ◌∙◌}
 use Rattle.gx_refs.proofs.RoomLemmas.{made_kept, made_next}
 use Rattle.gx_refs.proofs.conflicts.made_names.Goals as goal
 use Rattle.gx_refs.proofs.conflicts.made_names.Goals.{then-makes+in_ok-name+in_ok-try_clone+in_ok-insert+in-Some-1, then-makes+in_ok-name+in_ok-try_clone+in_ok-insert+in-None-1, else-makes}

@@ -1,5 +1,5 @@
 use Rattle.std.proofs.Common.{◌≡◌, ◌++◌}
-use Rattle.std.specs.List.{AllByRecursion, AllZip}
+use Rattle.std.specs.List.{AllByRecursion}
 use Rattle.gx_refs.specs.Plan.{ArePlans}
 use Rattle.gx_refs.specs.Planned.{FindsKind}
 use Rattle.gx_refs.proofs.preparing.plans_of.Given as goal

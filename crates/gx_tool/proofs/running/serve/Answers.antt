@@ -1,5 +1,7 @@
-use Rattle.std.proofs.Common.{refl, Err, ap}
+use Rattle.std.proofs.Common.{refl, Err, ap, subst}
+use Rattle.gx_tool.specs.Serving.{call_of}
 use Rattle.gx_tool.proofs.CourseLemmas.{so_far_first, so_far_more, ends_at_once, ends_malformed, ends_read_fault, ends_too_long, ends_no_memory, ends_store, ends_store_memory, ends_print_memory, ends_write_fault, ends_sink_memory, turn_smaller}
+use Rattle.gx_tool.proofs.FaultlessLemmas.{kind_now}
 use Rattle.gx_tool.proofs.FormLemmas.{needs_met}
 use Rattle.gx_tool.proofs.running.serve.Goals as goal
 
@@ -72,4 +74,5 @@ requests-preserved g c =
 pub execute-requires : goal.execute-requires
 execute-requires g c =
     let next = rw c.in-Ok-Some.field-0-is at c.in-Ok-Some.ensures.next c.requests.invariant.fine in
-    needs_met _ _ next.0
+    let kind = kind_now c.call_laws.ensures _ _ _ _ _ c.requests.invariant in
+    subst (call_of c.in-Ok-Some.request).needs kind (needs_met _ c.in-Ok-Some.request next.0)

@@ -1,12 +1,23 @@
-use Rattle.std.proofs.Common.{refl}
+use Rattle.std.proofs.Common.{◌≡◌, ◌∙◌, ap, refl, subst, Option, IfOk, IfSome}
+use Rattle.std.specs.FinMap.{get}
+use Rattle.gx_store.specs.Kinds.{AreLinesOfKind}
+use Rattle.gx_store.specs.State.{IfFault, IsUnreadable}
 use Rattle.gx_store.specs.declared.error.What.TheVariants as what
+use Rattle.gx_refs.specs.Shown.{stored_name}
 use Rattle.gix.specs.Logs.{log_query}
-use Rattle.gix.specs.Repository.{held_by}
-use Rattle.gix.proofs.AskingLemmas.{asking_means, cause_of_part}
+use Rattle.gix.specs.Repository.{held_by, settings_of, store_of}
+use Rattle.gix.specs.Space.{space_of}
+use Rattle.gix.proofs.AskingLemmas.{asking_means, both_ok, cause_of_part}
 use Rattle.gix.proofs.repository.Repository.log.Goals as goal
 
 pub returns : goal.returns
 returns g c =
     let held = held_by g.S.Meanings.state c.args.self.now in
-    asking_means (log_query c.args.name.now) held c.log.result c.log.ensures.found
-    (cause_of_part (log_query c.args.name.now) (λ e. refl) held.settings held.store c.log.result (what.Name c.args.name.now) refl c.log.ensures.fault)
+    let name = c.args.name.now in
+    let told = (g.S.Meanings.state (store_of c.args.self.now)).references in
+    let query = log_query name in
+    let place = c.in_ok-stored.ensures ∙ ap (λ space. stored_name space name) c.namespace_of.ensures in
+    let found = subst (λ n. IfOk c.log.result (λ lines. IfSome told (λ refs. lines ≡ get refs.logs n))) place c.log.ensures.found in
+    let fault = subst (λ n. IfFault c.log.result (IsUnreadable held.store (what.Name n))) place c.log.ensures.fault in
+    asking_means query held c.log.result (both_ok _ _ c.log.result c.log.ensures.kind found)
+    (cause_of_part query (λ e. refl) held.settings held.store c.log.result (what.Name (stored_name (space_of held.settings) name)) refl fault)

@@ -7,7 +7,7 @@ use Rattle.gx_hash.specs.declared.oid.ObjectId.TheVariants.{Sha1}
 use Rattle.gx_walk.specs.History.{History, Reaches, start}
 use Rattle.gx_walk.specs.MergeBase.{AreBases, IsOctopus, IsReadForBases, IsReadForOctopus, shown_parents}
 use Rattle.gx_walk.proofs.BaseLemmas.{reach_then}
-use Rattle.gx_walk.proofs.FoldLemmas.{fold_next, fold_reached, fold_own, fold_other, fold_names, item_is, drop_item}
+use Rattle.gx_walk.proofs.FoldLemmas.{fold_next, fold_reached, fold_own, fold_other, fold_names, never_none, item_is, drop_item}
 use Rattle.gx_walk.proofs.GraphLemmas.{extends_then}
 use Rattle.gx_walk.proofs.IdLemmas.{has_self}
 use Rattle.gx_walk.proofs.TellLemmas.{told_all, told_both, causes_then}
@@ -70,3 +70,11 @@ loop-other-preserved g c =
       c.in_ok-bases.ensures.graph,
       extends_then c.args.graph.now c.loop-other.graph c.merge_base.new.graph c.loop-other.invariant.4 c.in_ok-bases.ensures.keeps,
     )
+
+pub returns-in_default-clause-alone : goal.returns-in_default-clause-alone
+returns-in_default-clause-alone g c =
+    let others = c.args.others.now in
+    let other : ObjectId = get_or others c.loop-other.other-index (Sha1 []) in
+    let among : has_id others other ≡ true = item_is others c.loop-other.other-index other c.loop-other-test.true (search rules) in
+    λ own. absurd (never_none c.args.one others c.loop-other.base other c.in_ok-bases.bases c.loop-other.invariant.2 among c.in_ok-bases.ensures.alone
+    (ap (λ w. slice_get w 0) (sym c.as_slice.ensures) ∙ sym c.in_default.ensures.value) own)

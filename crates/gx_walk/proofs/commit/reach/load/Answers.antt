@@ -9,7 +9,7 @@ use Rattle.gx_walk.proofs.commit.reach.load.Goals as goal
 pub returns-in_err-insert-clause-graph : goal.returns-in_err-insert-clause-graph
 returns-in_err-insert-clause-graph g c =
     told_then (g.S.Meanings.state c.args.store.now) (λ h. IsGraphOf h c.args.graph.now) (λ h. IsGraphOf h c.insert.new.self)
-    (λ h it. graph_same h c.args.graph.now c.insert.new.self c.in_err-insert.ensures.err it) c.requires
+    (λ h it. graph_same h c.args.graph.now c.insert.new.self c.in_err-insert.ensures.leaves it) c.requires
 
 pub returns-clause-ok : goal.returns-clause-ok
 returns-clause-ok g c = ap is_some (put_here c.args.graph.now c.insert.new.self c.args.id _ c.in_ok-insert.ensures.ok)
