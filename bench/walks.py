@@ -18,8 +18,8 @@ import tempfile
 from common import (TOP, Failed, GitStore, best, instructions, megabytes, print_head, print_row, run)
 
 SIZES = (1_000, 10_000, 100_000)
-HEAD = ("history", "commits", "wall s", "made alone, wall s", "peak MiB", "instructions a commit and edge",
-        "instructions of the first item", "git wall s", "git peak MiB", "same ids")
+HEAD = ("history", "commits", "wall s", "made alone, wall s", "peak MiB", "peak MiB less made alone",
+        "instructions a commit and edge", "instructions of the first item", "git wall s", "git peak MiB", "same ids")
 TREE_HEAD = ("trees", "order", "entries", "wall s", "made alone, wall s", "peak MiB", "instructions an entry")
 
 
@@ -84,7 +84,8 @@ def measure_history(probe, git, shape, size, counted):
         if base is not None:
             per_item = f"{(probe.count(shape, size, 'newest') - base) / (size + edges):,.0f}"
             first = f"{probe.count(shape, size, 'newest-first') - base:,}"
-    row = [shape, f"{size:,}", f"{max(walked.wall - made.wall, 0):.3f}", f"{made.wall:.3f}", megabytes(walked.peak), per_item, first]
+    own = megabytes(max(walked.peak - made.peak, 0))
+    row = [shape, f"{size:,}", f"{max(walked.wall - made.wall, 0):.3f}", f"{made.wall:.3f}", megabytes(walked.peak), own, per_item, first]
     if git:
         stream, listed = os.path.join(probe.folder, "stream"), os.path.join(probe.folder, "listed")
         store = GitStore(git, probe.folder)

@@ -13,7 +13,7 @@ use Rattle.gix.specs.Logs.{of_store}
 use Rattle.gix.specs.Meaning.{Means, Stays, IsLawful}
 use Rattle.gix.specs.View.{View, view_of, whole}
 
-stays_same : (old new : StoreState) → new ≡ old → Stays old new
+pub stays_same : (old new : StoreState) → new ≡ old → Stays old new
 stays_same old new same = subst (λ n. Stays old n) (sym same) (record { kind = refl; parts = refl; later = omega arith })
 
 no_fault : {A E : Type 0} (q : Query A E) (settings : Settings) (old : StoreState) (e : E) (fault : What) (failure : Option StoreError) → ((part : What) → old.unreadable part ≡ false) → failure ≡ Some (Fault fault) → CauseBy q settings old e failure → ⊥

@@ -1,5 +1,5 @@
 -- How the base of a commit is found or refused.
-use Rattle.std.proofs.Common.{◌≡◌, ◌∙◌, sym, ap, refl, subst, List, [], ◌∷◌, ℕ, Option, Some, None, IfSome, drop, Result, Ok, Err, IfOk, IfErr, inl, inr}
+use Rattle.std.proofs.Common.{◌≡◌, ◌∙◌, sym, ap, refl, subst, List, [], ◌∷◌, ℕ, Option, Some, None, IfSome, drop, Result, Ok, Err, inl}
 use Rattle.std.specs.Prelude.{MatchResult, slice_get}
 use Rattle.gx_hash.specs.declared.kind.HashKind.{HashKind}
 use Rattle.gx_hash.specs.declared.oid.ObjectId.{ObjectId}
@@ -16,9 +16,7 @@ use Rattle.gx_edit.specs.declared.error.EditError.{EditError}
 use Rattle.gx_edit.specs.declared.error.EditError.TheVariants as edit_error
 use Rattle.gx_object.specs.CommitSpelling.{CommitText, commit_text, SpellsCommit}
 use Rattle.gx_store.specs.Content.{Content, lookup}
-use Rattle.gx_store.specs.State.{StoreState, IsUnreadable}
-use Rattle.gx_store.specs.declared.error.What.{What}
-use Rattle.gx_store.specs.declared.error.What.TheVariants as what
+use Rattle.gx_store.specs.State.{StoreState}
 use Rattle.gix.specs.declared.settings.Settings.{Settings}
 use Rattle.gix.specs.declared.error.CommitEditsError.{CommitEditsError}
 use Rattle.gix.specs.declared.error.CommitEditsError.TheVariants as error

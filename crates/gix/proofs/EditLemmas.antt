@@ -1,34 +1,26 @@
 -- Edits that are made one after another.
-use Rattle.std.proofs.Common.{◌≡◌, ◌≢◌, ◌⊎◌, ◌∙◌, ◌<◌, ◌≤◌, ◌+◌, inl, inr, ℕ, Bool, true, false, not, ◌||◌, List, [], ◌∷◌, ◌++◌, map, length, take, drop, get_or, refl, sym, ap, subst, append_assoc, ◌&&◌, Option, Some, None, IfSome, Result, Ok, Err, IfOk, IfErr, OnOk}
+use Rattle.std.proofs.Common.{◌≡◌, ◌⊎◌, ◌∙◌, ◌<◌, ◌≤◌, ◌+◌, inl, inr, ℕ, Bool, true, false, not, ◌||◌, List, [], ◌∷◌, ◌++◌, map, length, take, drop, get_or, refl, sym, ap, subst, append_assoc, ◌&&◌, Option, Some, None, IfSome, Result, Ok, Err, IfOk, IfErr}
 use Rattle.std.specs.List.{AllByRecursion}
 use Rattle.std.proofs.lemmas.List.{take-append-drop, take_more, drop_more, map-append, append-nil, take_all, drop_all}
 use Rattle.std.proofs.lemmas.List.Folds.{list_all-append}
 use Rattle.gx_hash.specs.declared.kind.HashKind.{HashKind}
 use Rattle.gx_hash.specs.declared.oid.ObjectId.{ObjectId}
-use Rattle.gx_hash.specs.HashKind.{kind_of}
-use Rattle.gx_hash.specs.ObjectId.{null_id}
 use Rattle.gx_hash.specs.ObjectIds.{id_eq, has_id}
-use Rattle.gx_object.specs.Mode.{mode_of}
 use Rattle.gx_object.specs.declared.kind.Kind.TheVariants as kind
-use Rattle.gx_object.specs.declared.tree.EntryKind.{EntryKind}
-use Rattle.gx_object.specs.declared.tree.EntryKind.TheVariants as entry_kind
 use Rattle.gx_store.specs.Content.{Content, id_of}
 use Rattle.gx_store.specs.State.{StoreState}
-use Rattle.gx_edit.specs.Path.{Path, components}
-use Rattle.gx_edit.specs.PathList.{has_empty_name}
-use Rattle.gx_edit.specs.PathMap.{blob_id, blobs_in, blobs_of, file_mode, path_of}
-use Rattle.gx_edit.specs.Editor.{hash_of, view_of as directories_of, upserted_entry}
-use Rattle.gx_edit.specs.EditorCauses.{IsOnWay, LoadsAll, EditCauses}
+use Rattle.gx_edit.specs.Path.{components}
+use Rattle.gx_edit.specs.PathMap.{blobs_in, blobs_of, path_of}
+use Rattle.gx_edit.specs.Editor.{hash_of, view_of as directories_of}
+use Rattle.gx_edit.specs.EditorCauses.{IsOnWay}
 use Rattle.gx_edit.specs.View as directories
 use Rattle.gx_edit.specs.View.{Names, IsLoad, only, names_of, upserted}
 use Rattle.gx_edit.specs.StoredTree.{IsReadable}
 use Rattle.gx_edit.specs.ViewOfEdits.{view_with, edited_view, PutsOwnId}
 use Rattle.gx_edit.specs.declared.editor.Editor.{Editor}
-use Rattle.gx_edit.specs.declared.editor.item.Item.{Item}
 use Rattle.gx_edit.specs.declared.error.EditError.{EditError}
 use Rattle.gx_edit.specs.declared.error.EditError.TheVariants as edit_error
 use Rattle.gx_edit.specs.declared.path_edit.PathEdit.{PathEdit}
-use Rattle.gx_edit.specs.declared.path_edit.PathEdit.TheVariants as edit
 use Rattle.gix.specs.declared.edits.Edited.{Edited}
 use Rattle.gix.specs.declared.settings.Settings.{Settings}
 use Rattle.gix.specs.declared.error.CommitEditsError.{CommitEditsError}
@@ -37,8 +29,7 @@ use Rattle.gix.specs.CommitRequest.{CommitRequest}
 use Rattle.gix.specs.View.{view_of}
 use Rattle.gix.specs.Trees.{WhereLoaded, IsLoadedBy, has_gap, have_names}
 use Rattle.gix.specs.Causes.{IsFirstGap}
-use Rattle.gix.specs.Lifting.{lifted, HasPlace}
-use Rattle.gix.specs.Stages.{blob_ids, IsMadeBy, IsPutAt, IsEdited, IsEditedBy, IsBaseEditor, IsToldAs, EditRefused, EditRefusedAt, EditsCauses, StageCauses}
+use Rattle.gix.specs.Stages.{blob_ids, IsMadeBy, IsEdited, IsEditedBy, IsBaseEditor, IsToldAs, EditRefused, EditsCauses, StageCauses}
 use Rattle.gix.proofs.Told.{told_with, told_both}
 use Rattle.gix.proofs.BaseLemmas.{read_refused}
 

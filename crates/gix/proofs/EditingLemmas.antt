@@ -1,8 +1,8 @@
 -- What edits of references mean.
-use Rattle.std.proofs.Common.{◌≡◌, ◌∙◌, refl, sym, ap, subst, arith, List, Option, Some, None, option_map, Result, Ok, Err, IfOk, IfErr, IsTrue, Bool, true, false, true≢false, inl, inr, ◌⊎◌, ℕ}
+use Rattle.std.proofs.Common.{◌≡◌, ◌∙◌, refl, sym, ap, subst, List, Option, Some, None, option_map, Result, Ok, Err, IfOk, IfErr, IsTrue, Bool, true, false, true≢false, inl, inr, ◌⊎◌, ℕ}
 use Rattle.gx_hash.specs.declared.kind.HashKind.{HashKind}
 use Rattle.gx_object.specs.declared.signature.Signature.{Signature}
-use Rattle.gx_store.specs.Change.{applied, refs_after}
+use Rattle.gx_store.specs.Change.{refs_after}
 use Rattle.gx_store.specs.Content.{Content}
 use Rattle.gx_store.specs.Faults.{Rose}
 use Rattle.gx_store.specs.State.{RefState, StoreState, HasCause, IsUnreadable}
@@ -16,11 +16,9 @@ use Rattle.gx_refs.specs.declared.edit.RefEdit.{RefEdit}
 use Rattle.gx_refs.specs.declared.error.RefError.{RefError}
 use Rattle.gx_refs.specs.declared.error.RefError.TheVariants.{Store, NoMemory}
 use Rattle.gx_refs.specs.declared.terms.Terms.{Terms}
-use Rattle.gix.specs.declared.settings.Settings.{Settings}
 use Rattle.gix.specs.EditReferences.{AcceptsEdits, LeavesEdits, MakeCauses, MakesEdits, edit_part, edit_references_meaning, terms_in}
 use Rattle.gix.specs.Held.{Held, BothTold, WhereTold, state_of, state_told}
 use Rattle.gix.specs.Meaning.{Means, Stays, IsLawful}
-use Rattle.gix.specs.View.{State}
 use Rattle.gix.proofs.AskingLemmas.{told_still}
 
 -- ---- faults
@@ -43,7 +41,7 @@ read_unreadable : (terms : Terms) (state : StoreState) (edits : List RefEdit) (f
 read_unreadable terms state edits fault (inl way) = way_unreadable state way.edit.deref _ fault way.holds
 read_unreadable terms state edits fault (inr line) = part_unreadable state _ fault line.holds.2.unreadable
 
-fault_unreadable : (terms : Terms) (state : StoreState) (edits : List RefEdit) (fault : What) → IsEditFault terms state edits fault → IsTrue (state.unreadable fault)
+pub fault_unreadable : (terms : Terms) (state : StoreState) (edits : List RefEdit) (fault : What) → IsEditFault terms state edits fault → IsTrue (state.unreadable fault)
 fault_unreadable terms state edits what.Listing h = h.0
 fault_unreadable terms state edits (what.Name name) h = read_unreadable terms state edits (what.Name name) h
 fault_unreadable terms state edits (what.Object id) h = read_unreadable terms state edits (what.Object id) h

@@ -27,7 +27,8 @@ use Rattle.gix.specs.View.{View, State, whole}
 use Rattle.gix.specs.Base.{IsMapOf, IsBaseTree, IsBase}
 use Rattle.gix.specs.Trees.{Makes, brought}
 use Rattle.gix.specs.LawsBelow.{LawsBelow, MapIsUnique}
-use Rattle.gix.specs.CommitEdits.{commit_text, commit_id, written_objects}
+use Rattle.gix.specs.CommitEdits.{written_objects}
+use Rattle.gix.specs.NewCommit.{commit_text, commit_id}
 use Rattle.gix.specs.Machine.{Accepts}
 use Rattle.gix.specs.History.{Call, AddsCommit, AddsFirst, Left, CallStep, Premises, History, IsEmpty, ByParent, IsLine, line_map}
 use Rattle.gix.proofs.Lists.{none_in, at_head, at_tail, all_before, all_both}
@@ -311,7 +312,7 @@ module _ (laws : LawsBelow) (settings : Settings) (calls : List Call) (call : Ca
       (λ id is. absurd (no_id call.stored id none is))
 
   accepted : (stored id : ObjectId) → stored ≡ id → Accepts settings call.request old id new → AddsCommit settings call.request old stored new
-  accepted stored id same a = record { output = a.output; way = a.way; admitted = a.admitted; is_id = same ∙ a.is_id; adds = a.adds }
+  accepted stored id same a = record { output = a.output; admitted = a.admitted; is_id = same ∙ a.is_id; adds = a.adds }
 
   after_left : (answer : Result ObjectId CommitEditsError) (stored : Option ObjectId) → call.stored ≡ stored → Left settings call.request old answer stored new → Known old.hash new.content (calls ++ call ∷ [])
   after_left (Ok id) (Some stored) is left = after_commit stored is (accepted stored id left.0 left.1)

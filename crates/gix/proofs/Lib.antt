@@ -15,7 +15,6 @@ mod NoCauseLemmas
 mod OnceLemmas
 mod OutputLemmas
 mod PlanLemmas
-mod ReferenceLemmas
 mod StandingLemmas
 mod StepLemmas
 mod Told

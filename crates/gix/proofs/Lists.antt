@@ -1,5 +1,5 @@
 -- Elements of lists.
-use Rattle.std.proofs.Common.{◌≡◌, ◌∙◌, ◌<◌, ◌⊎◌, inl, inr, ⊎_elim, sym, ap, refl, subst, arith, List, [], ◌∷◌, ◌++◌, map, length, ℕ, suc, zero, Bool, true, false, true≢false, ◌||◌, Contains}
+use Rattle.std.proofs.Common.{◌≡◌, ◌⊎◌, inl, inr, ⊎_elim, sym, refl, subst, arith, List, [], ◌∷◌, ◌++◌, map, suc, zero, Bool, true, false, true≢false, ◌||◌, Contains}
 use Rattle.std.specs.List.{AllByRecursion, AllZip, flat_map}
 use Rattle.gx_hash.specs.declared.oid.ObjectId.{ObjectId}
 use Rattle.gx_hash.specs.ObjectIds.{id_eq, has_id}

@@ -9,7 +9,6 @@ use Rattle.gx_store.specs.Content.{Content, lookup, id_of, with_objects, HoldsAl
 use Rattle.gx_store.specs.Change.{refs_after}
 use Rattle.gx_store.specs.Faults.{Rose}
 use Rattle.gx_store.specs.State.{RefState, StoreState, Becomes}
-use Rattle.gx_store.specs.declared.change.RefChange.{RefChange}
 use Rattle.gx_store.specs.declared.error.StoreError.TheVariants as store_error
 use Rattle.gx_store.specs.declared.error.What.{What}
 use Rattle.gx_store.specs.declared.error.What.TheVariants as what
@@ -25,10 +24,12 @@ use Rattle.gix.specs.View.{View, State, whole}
 use Rattle.gix.specs.Base.{IsBase}
 use Rattle.gix.specs.Trees.{MayWrite, brought}
 use Rattle.gix.specs.LawsBelow.{LawsBelow}
-use Rattle.gix.specs.Reference.{Way, Moves}
+use Rattle.gx_refs.specs.Prepared.{Prepares, Ready}
+use Rattle.gix.specs.Reference.{commit_terms, edits_of}
 use Rattle.gix.specs.Admission.{IsAdmitted}
 use Rattle.gix.specs.Causes.{Cause, CommitEditsCauses, HasFault, store_part}
-use Rattle.gix.specs.CommitEdits.{Commits, Leaves, commit_id, commit_text, written_objects}
+use Rattle.gix.specs.CommitEdits.{Commits, Leaves, written_objects}
+use Rattle.gix.specs.NewCommit.{commit_id, commit_text}
 use Rattle.gix.specs.Held.{Held, state_of, state_told, BothTold, WhereTold}
 use Rattle.gix.specs.Meaning.{Means, Stays, IsLawful}
 use Rattle.gix.specs.Machine.{IsWrittenOf, Accepts, Refuses, commit_edits_meaning}
@@ -70,16 +71,15 @@ module _ (laws : LawsBelow) (settings : Settings) (r : CommitRequest) (old : Sta
       (λ id object found. of_some (λ object. lookup new id ≡ Some object) (lookup old.content id) object (laws.found old.hash objects old.content new apart adds id) found)
       (trees_held old.hash r output new (laws.added old.hash objects old.content new apart adds))
 
-accepted : (laws : LawsBelow) (settings : Settings) (r : CommitRequest) (hash : HashKind) (content : Content) (refs : RefState) (id : ObjectId) (output : Output) (way : Way) (changes : List RefChange) → IsAdmitted settings r (view hash (Some content) (Some refs)) output way
-    → id ≡ commit_id hash r output → Moves settings hash r (Some refs) way id changes
-    → Accepts settings r (record { hash = hash; content = content; references = refs }) id (record { hash = hash; content = with_objects hash (written_objects r output) content; references = refs_after changes refs })
-accepted laws settings r hash content refs id output way changes admitted is_id moves =
+accepted : (laws : LawsBelow) (settings : Settings) (r : CommitRequest) (hash : HashKind) (content : Content) (refs : RefState) (id : ObjectId) (output : Output) (ready : Ready) → IsAdmitted settings r (view hash (Some content) (Some refs)) output
+    → id ≡ commit_id hash r output → Prepares (commit_terms settings r) (Some refs) (edits_of r id) ready
+    → Accepts settings r (record { hash = hash; content = content; references = refs }) id (record { hash = hash; content = with_objects hash (written_objects r output) content; references = refs_after ready.changes refs })
+accepted laws settings r hash content refs id output ready admitted is_id prepared =
     let objects : List (Kind × List ℕ) = written_objects r output in
     let old : State = record { hash = hash; content = content; references = refs } in
     let adds : Adds hash objects content (with_objects hash objects content) = laws.writing hash objects content in
     record {
       output = output;
-      way = way;
       admitted = admitted;
       is_id = is_id;
       hash = refl;
@@ -87,21 +87,21 @@ accepted laws settings r hash content refs id output way changes admitted is_id 
       stored = λ apart. laws.added hash objects content (with_objects hash objects content) apart adds;
       written = λ base is. written_of laws settings r old output admitted.objects.trees base is;
       represents = λ base is apart. represented laws settings r old output admitted.objects.trees base is (with_objects hash objects content) adds apart;
-      references = moves.moved;
+      references = record { plans = prepared.plans; ways = prepared.ways; accepted = prepared.accepted; makes = prepared.makes };
     }
 
 -- where the state is told
-accepted_told : (laws : LawsBelow) (settings : Settings) (r : CommitRequest) (hash : HashKind) (content : Option Content) (references : Option RefState) (id : ObjectId) (output : Output) (way : Way) (changes : List RefChange) → IsAdmitted settings r (view hash content references) output way
-    → id ≡ commit_id hash r output → Moves settings hash r references way id changes
-    → BothTold (λ old new. Accepts settings r old id new) (state_told hash content references) (state_told hash (option_map (with_objects hash (written_objects r output)) content) (option_map (refs_after changes) references))
-accepted_told laws settings r hash None references id output way changes admitted is_id moves = tt
-accepted_told laws settings r hash (Some content) None id output way changes admitted is_id moves = tt
-accepted_told laws settings r hash (Some content) (Some refs) id output way changes admitted is_id moves = accepted laws settings r hash content refs id output way changes admitted is_id moves
+accepted_told : (laws : LawsBelow) (settings : Settings) (r : CommitRequest) (hash : HashKind) (content : Option Content) (references : Option RefState) (id : ObjectId) (output : Output) (ready : Ready) → IsAdmitted settings r (view hash content references) output
+    → id ≡ commit_id hash r output → Prepares (commit_terms settings r) references (edits_of r id) ready
+    → BothTold (λ old new. Accepts settings r old id new) (state_told hash content references) (state_told hash (option_map (with_objects hash (written_objects r output)) content) (option_map (refs_after ready.changes) references))
+accepted_told laws settings r hash None references id output ready admitted is_id prepared = tt
+accepted_told laws settings r hash (Some content) None id output ready admitted is_id prepared = tt
+accepted_told laws settings r hash (Some content) (Some refs) id output ready admitted is_id prepared = accepted laws settings r hash content refs id output ready admitted is_id prepared
 
 -- A commit that was made is accepted.
 pub accepts_of : (laws : LawsBelow) (settings : Settings) (r : CommitRequest) (old new : StoreState) (id : ObjectId) → Commits settings r old id new → WhereTold (λ before after. Accepts settings r before id after) old new
 accepts_of laws settings r old new id c = subst (λ (s : StoreState). BothTold (λ before after. Accepts settings r before id after) (state_of old) (state_of s)) (sym c.becomes.same)
-    (accepted_told laws settings r old.hash old.content old.references id c.output c.way c.changes c.admitted c.is_id c.moves)
+    (accepted_told laws settings r old.hash old.content old.references id c.output c.ready c.admitted c.is_id c.prepared)
 
 refused_told : (settings : Settings) (r : CommitRequest) (hash : HashKind) (content : Option Content) (references : Option RefState) (e : CommitEditsError) → Cause settings r (view hash content references) e
     → BothTold (λ old new. Refuses settings r old e new) (state_told hash content references) (state_told hash content references)

@@ -65,7 +65,7 @@ module _ (laws : LawsBelow) (state : State) (base : PathMap) where
 module _ (laws : LawsBelow) (settings : Settings) (r : CommitRequest) (state : State) (v : IsValidCommit settings r state) where
   -- where trees can be made, the request may be made
   never_made : (output : Output) → Makes r (whole state) output → (e : CommitEditsError) → Cause settings r (whole state) e → ⊥
-  never_made output makes e c = let a = admitted laws settings r state output v makes in no_cause laws settings r state output a.0 a.1 e c
+  never_made output makes e c = let a = admitted laws settings r state output v makes in no_cause laws settings r state output a e c
 
   never_unwritable : (part : Field) → IsUnwritable settings r (whole state) part → ⊥
   never_unwritable field.FileName c = never_made c.output c.makes (error.WriteObject field.FileName) c
@@ -90,12 +90,12 @@ module _ (laws : LawsBelow) (settings : Settings) (r : CommitRequest) (state : S
   never_refused (error.InvalidFilename filename entry_kind id source) c = never_made c.output c.makes (error.InvalidFilename filename entry_kind id source) c
   never_refused (error.MissingObject filename entry_kind id) c = never_made c.output c.makes (error.MissingObject filename entry_kind id) c
   never_refused (error.WriteObject part) c = never_unwritable part c
-  never_refused (error.Cycle name) c = never_made c.0.0 c.0.1.trees.makes (error.Cycle name) c
-  never_refused (error.DepthLimitExceeded name) c = never_made c.0.0 c.0.1.trees.makes (error.DepthLimitExceeded name) c
-  never_refused (error.MustExist name) c = never_made c.0.0 c.0.1.trees.makes (error.MustExist name) c
-  never_refused (error.MustNotExist name actual) c = never_made c.0.0 c.0.1.trees.makes (error.MustNotExist name actual) c
-  never_refused (error.ReferenceOutOfDate name expected actual) c = never_made c.0.0 c.0.1.trees.makes (error.ReferenceOutOfDate name expected actual) c
-  never_refused (error.NameConflict name other) c = never_made c.0.0 c.0.1.trees.makes (error.NameConflict name other) c
+  never_refused (error.Cycle name) c = never_made c.output c.may.trees.makes (error.Cycle name) c
+  never_refused (error.DepthLimitExceeded name) c = never_made c.output c.may.trees.makes (error.DepthLimitExceeded name) c
+  never_refused (error.MustExist name) c = never_made c.output c.may.trees.makes (error.MustExist name) c
+  never_refused (error.MustNotExist name actual) c = never_made c.output c.may.trees.makes (error.MustNotExist name actual) c
+  never_refused (error.ReferenceOutOfDate name expected actual) c = never_made c.output c.may.trees.makes (error.ReferenceOutOfDate name expected actual) c
+  never_refused (error.NameConflict name other) c = never_made c.output c.may.trees.makes (error.NameConflict name other) c
   never_refused (error.Store fault) c = c
   never_refused error.NoMemory c = c
 

@@ -34,7 +34,8 @@ use Rattle.gix.specs.Base.{HasTree, IsMapOf, IsBase}
 use Rattle.gix.specs.Trees.{MayWrite, brought}
 use Rattle.gix.specs.LawsBelow.{LawsBelow}
 use Rattle.gix.specs.Admission.{AreWritable}
-use Rattle.gix.specs.CommitEdits.{commit_text, commit_id, written_objects}
+use Rattle.gix.specs.CommitEdits.{written_objects}
+use Rattle.gix.specs.NewCommit.{commit_text, commit_id}
 use Rattle.gix.specs.History.{IsWholeId, HasWholeId, Premises}
 use Rattle.gix.proofs.Lists.{all_of, all_behind, in_front, in_back}
 use Rattle.gix.proofs.NoCauseLemmas.{parts_are_writable}

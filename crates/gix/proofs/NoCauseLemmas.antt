@@ -1,11 +1,12 @@
 -- A request that may be made has no cause to be refused.
-use Rattle.std.proofs.Common.{◌≡◌, ◌≢◌, ◌∙◌, sym, ap, refl, subst, List, [], ◌∷◌, map, ℕ, Bool, true, false, true≢false, not, ◌&&◌, Option, Some, None, IsSome, Contains, inl, inr, ◌⊎◌, ⊎_elim}
-use Rattle.std.specs.Prelude.{codes}
-use Rattle.std.specs.List.{AllByRecursion, list_all}
-use Rattle.std.specs.FinMap.{get}
+use Rattle.std.proofs.Common.{◌≡◌, ◌∙◌, sym, ap, refl, subst, List, [], ◌∷◌, map, ℕ, Bool, true, false, true≢false, not, ◌&&◌, Option, Some, None, Contains, inl, inr, ◌⊎◌, ⊎_elim}
+use Rattle.std.specs.List.{list_all}
 use Rattle.std.proofs.lemmas.List.Folds.{list_all-append}
 use Rattle.gx_hash.specs.declared.oid.ObjectId.{ObjectId}
 use Rattle.gx_hash.specs.ObjectIds.{has_id}
+use Rattle.gx_hash.specs.ObjectId.{object_id}
+use Rattle.gx_object.specs.Commit.{plain_commit_bytes}
+use Rattle.gx_object.specs.Kind.{kind_name}
 use Rattle.gx_object.specs.declared.kind.Kind.{Kind}
 use Rattle.gx_object.specs.declared.kind.Kind.TheVariants as kind
 use Rattle.gx_object.specs.declared.encode.Field.{Field}
@@ -17,18 +18,16 @@ use Rattle.gx_object.specs.Tree.{is_writable_filename}
 use Rattle.gx_object.specs.declared.signature.Signature.{Signature}
 use Rattle.gx_rules.specs.Component.{Violates, IsFirstViolated}
 use Rattle.gx_rules.specs.declared.component_error.ComponentError.{ComponentError}
-use Rattle.gx_store.specs.Conflict.{Conflict}
 use Rattle.gx_store.specs.Content.{lookup, id_of}
-use Rattle.gx_store.specs.declared.target.Target.{Target}
-use Rattle.gx_store.specs.declared.target.Target.TheVariants as target
 use Rattle.gx_edit.specs.Entries.{IsSafe, IsEntry, is_link}
 use Rattle.gx_edit.specs.Output.{Output}
 use Rattle.gx_edit.specs.PathMap.{blobs_of}
 use Rattle.gx_edit.specs.View.{only, names_of}
 use Rattle.gx_edit.specs.Written.{IsOutputOfView}
 use Rattle.gx_edit.specs.declared.path_edit.PathEdit.{PathEdit}
-use Rattle.gx_refs.specs.Chain.{Cycles, IsTooDeep}
-use Rattle.gx_refs.specs.Laws.Fate.{Ending, Cycling, TooDeep}
+use Rattle.gx_refs.specs.EditCauses.{EditRefusal}
+use Rattle.gx_refs.specs.declared.error.RefError.{RefError}
+use Rattle.gx_refs.specs.declared.error.RefError.TheVariants as ref_error
 use Rattle.gix.specs.declared.settings.Settings.{Settings}
 use Rattle.gix.specs.declared.error.CommitEditsError.{CommitEditsError}
 use Rattle.gix.specs.declared.error.CommitEditsError.TheVariants as error
@@ -37,12 +36,13 @@ use Rattle.gix.specs.View.{State, whole}
 use Rattle.gix.specs.Base.{HasTree, IsBaseTree, OfFirst}
 use Rattle.gix.specs.Trees.{IsLoadedBy, Makes, has_gap, have_names, brought, IsFound}
 use Rattle.gix.specs.LawsBelow.{LawsBelow}
-use Rattle.gix.specs.Reference.{Way, IsAllowed}
+use Rattle.gix.specs.NewCommit.{commit_id}
+use Rattle.gix.specs.Reference.{commit_terms, edits_of}
 use Rattle.gix.specs.Admission.{AreWritable, IsAdmitted}
-use Rattle.gix.specs.Causes.{IsReadAs, IsAbsent, IsOther, IsBad, SpellsNone, IsFirstGap, OfEntry, IsMissing, IsUnwritable, EndsAt, Cause}
+use Rattle.gix.specs.Causes.{IsReadAs, IsAbsent, IsOther, IsBad, SpellsNone, IsFirstGap, OfEntry, IsMissing, IsMoveRefused, IsUnwritable, Cause}
 use Rattle.gix.proofs.Lists.{all_at, found_in, is_found, mapped_from, in_mapped, front_or_back, in_front, in_back}
-use Rattle.gix.proofs.OnceLemmas.{one_kind, one_text, one_tree, one_root, one_view, one_end, one_found}
-use Rattle.gix.proofs.OutputLemmas.{same_entry, same_tree}
+use Rattle.gix.proofs.OnceLemmas.{one_kind, one_text, one_tree, one_root, one_view}
+use Rattle.gix.proofs.OutputLemmas.{same_entry, same_root, same_tree}
 
 both_left : (a b : Bool) → (a && b) ≡ true → a ≡ true
 both_left true b h = refl
@@ -132,31 +132,9 @@ parts_are_writable r w field.TagName = refl
 parts_are_writable r w field.Encoding = refl
 parts_are_writable r w field.HeaderName = refl
 
--- ---- what the reference may name
-
-allowed_absent : (name : List ℕ) (parents : List ObjectId) (found : Option Target) → found ≡ None → IsAllowed name parents found → (name ≡ codes "HEAD") → (parents ≢ []) → ⊥
-allowed_absent name [] found none ok head some = some refl
-allowed_absent name (parent ∷ parents) None none ok head some = ok head
-allowed_absent name (parent ∷ parents) (Some actual) none ok head some = not_stored actual none
-
-allowed_without : (name : List ℕ) (parents : List ObjectId) (found : Option Target) (actual : Target) → found ≡ Some actual → IsAllowed name parents found → parents ≡ [] → ⊥
-allowed_without name [] found actual is ok none = not_stored actual (sym is ∙ ok)
-allowed_without name (parent ∷ parents) found actual is ok none = cc
-
-allowed_is : (name : List ℕ) (parents : List ObjectId) (found : Option Target) (actual expected : Target) → found ≡ Some actual → IsAllowed name parents found → OfFirst parents (λ parent. expected ≡ target.Object parent) → (actual ≢ expected) → ⊥
-allowed_is name [] found actual expected is ok first other = first
-allowed_is name (parent ∷ parents) None actual expected is ok first other = not_stored actual (sym is)
-allowed_is name (parent ∷ parents) (Some x) actual expected is ok first other = other (one_target x actual is ∙ ok ∙ sym first)
-  where
-    one_target : (x actual : Target) → ◌≡◌ {A = Option Target} (Some x) (Some actual) → actual ≡ x
-    one_target x actual same = cc
-
-none_some : IsSome {T = Target} None → ⊥
-none_some h = cc
-
 -- ---- each cause
 
-module _ (laws : LawsBelow) (settings : Settings) (r : CommitRequest) (state : State) (output : Output) (way : Way) (a : IsAdmitted settings r (whole state) output way) where
+module _ (laws : LawsBelow) (settings : Settings) (r : CommitRequest) (state : State) (output : Output) (a : IsAdmitted settings r (whole state) output) where
   -- what is written of the request is written of one view
   as_here : (other : Output) → Makes r (whole state) other → IsOutputOfView state.hash a.objects.trees.makes.end other
   as_here other m = subst (λ v. IsOutputOfView state.hash v other) (one_view laws.exists r state m.end a.objects.trees.makes.end m.edits a.objects.trees.makes.edits) m.written
@@ -212,28 +190,13 @@ module _ (laws : LawsBelow) (settings : Settings) (r : CommitRequest) (state : S
   not_unwritable field.Encoding c = not_part field.Encoding c.2
   not_unwritable field.HeaderName c = not_part field.HeaderName c.2
 
-  pub not_cycling : Cycles state.references.targets r.reference → ⊥
-  not_cycling c = apart (laws.meets state.references.targets r.reference Ending Cycling way.names c.0 (way.end, way.found, a.reference.ends) c.1).0
-    where
-      apart : Ending ≡ Cycling → ⊥
-      apart same = cc
+  -- the commit over one output has the id of the commit over another
+  one_commit : (other : Output) → Makes r (whole state) other → commit_id state.hash r other ≡ commit_id state.hash r output
+  one_commit other m = ap (λ root. object_id state.hash (kind_name kind.Commit) (plain_commit_bytes root r.parents r.author r.committer r.message)) (same_root laws.once state.hash a.objects.trees.makes.end other output (as_here other m) a.objects.trees.makes.written)
 
-  pub not_too_deep : IsTooDeep state.references.targets r.reference → ⊥
-  not_too_deep c = apart (laws.meets state.references.targets r.reference Ending TooDeep way.names c.0 (way.end, way.found, a.reference.ends) c.1).0
-    where
-      apart : Ending ≡ TooDeep → ⊥
-      apart same = cc
-
-  ends_as : (name : List ℕ) (found : Option Target) → EndsAt r (whole state) name found → (way.end ≡ name) × (way.found ≡ found)
-  ends_as name found c = (
-    one_end laws.meets state.references.targets r.reference way.names c.0 way.end name way.found found a.reference.ends c.1,
-    one_found laws.meets state.references.targets r.reference way.names c.0 way.end name way.found found a.reference.ends c.1,
-  )
-
-  pub not_taken : (name other : List ℕ) → Conflict name other → EndsAt r (whole state) name None → IsSome (get state.references.targets other) → ⊥
-  not_taken name other conflict ends there =
-      let same = ends_as name None ends in
-      none_some (subst IsSome (a.reference.free same.1 other (subst (λ n. Conflict n other) (sym same.0) conflict)) there)
+  pub not_refused : (e : RefError) → IsMoveRefused settings r (whole state) e → ⊥
+  not_refused e c = laws.made (commit_terms settings r) state.references (edits_of r (commit_id state.hash r output)) e a.reference
+      (subst (λ id. EditRefusal (commit_terms settings r) (Some state.references) (edits_of r id) e) (one_commit c.output c.may.trees.makes) c.refused)
 
   pub no_cause : (e : CommitEditsError) → Cause settings r (whole state) e → ⊥
   no_cause (error.FindExistingObject id) c = never_absent r state known id c
@@ -243,11 +206,11 @@ module _ (laws : LawsBelow) (settings : Settings) (r : CommitRequest) (state : S
   no_cause (error.InvalidFilename filename entry_kind id source) c = not_unsafe filename entry_kind id source c
   no_cause (error.MissingObject filename entry_kind id) c = not_missing filename entry_kind id c
   no_cause (error.WriteObject part) c = not_unwritable part c
-  no_cause (error.Cycle name) c = not_cycling c.2
-  no_cause (error.DepthLimitExceeded name) c = not_too_deep c.2
-  no_cause (error.MustExist name) c = allowed_absent r.reference r.parents way.found (ends_as name None c.3).1 a.reference.allowed c.1 c.2
-  no_cause (error.MustNotExist name actual) c = allowed_without r.reference r.parents way.found actual (ends_as name (Some actual) c.2).1 a.reference.allowed c.1
-  no_cause (error.ReferenceOutOfDate name expected actual) c = allowed_is r.reference r.parents way.found actual expected (ends_as name (Some actual) c.3).1 a.reference.allowed c.1 c.2
-  no_cause (error.NameConflict name other) c = not_taken name other c.1 c.2 c.3
+  no_cause (error.Cycle name) c = not_refused (ref_error.Cycle name) c
+  no_cause (error.DepthLimitExceeded name) c = not_refused (ref_error.DepthLimitExceeded name) c
+  no_cause (error.MustExist name) c = not_refused (ref_error.MustExist name) c
+  no_cause (error.MustNotExist name actual) c = not_refused (ref_error.MustNotExist name actual) c
+  no_cause (error.ReferenceOutOfDate name expected actual) c = not_refused (ref_error.ReferenceOutOfDate name expected actual) c
+  no_cause (error.NameConflict name other) c = not_refused (ref_error.NameConflict name other) c
   no_cause (error.Store fault) c = c
   no_cause error.NoMemory c = c

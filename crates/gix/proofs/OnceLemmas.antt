@@ -1,4 +1,4 @@
--- A request has one base, makes one view, and its reference leads one way.
+-- A request has one base, and makes one view.
 use Rattle.std.proofs.Common.{◌≡◌, ◌∙◌, sym, ap, subst, List, [], ◌∷◌, ℕ, Option, Some, Result, Ok}
 use Rattle.gx_hash.specs.declared.kind.HashKind.{HashKind}
 use Rattle.gx_hash.specs.declared.oid.ObjectId.{ObjectId}
@@ -9,25 +9,18 @@ use Rattle.gx_object.specs.declared.tree.Entry.{Entry}
 use Rattle.gx_object.specs.CommitSpelling.{CommitText, SpellsCommit}
 use Rattle.gx_object.specs.TreeSpelling.{SpellsTree}
 use Rattle.gx_object.specs.Laws.{one_commit, tree_once}
-use Rattle.gx_rules.specs.Name.{name_cmp}
-use Rattle.std.specs.FinMap.{FinMap, get}
 use Rattle.gx_store.specs.Content.{Content, lookup}
-use Rattle.gx_store.specs.declared.target.Target.{Target}
 use Rattle.gx_edit.specs.LawsView.{LoadExists}
 use Rattle.gx_edit.specs.PathMap.{PathMap}
 use Rattle.gx_edit.specs.StandsForMap.{HasMap}
 use Rattle.gx_edit.specs.View as directories
 use Rattle.gx_edit.specs.View.{only, names_of}
 use Rattle.gx_edit.specs.ViewOfEdits.{edited_view}
-use Rattle.gx_refs.specs.Chain.{EndsIn}
-use Rattle.gx_refs.specs.Laws.Fate.{Ending}
-use Rattle.gx_refs.specs.Laws.{MeetsOne}
 use Rattle.gix.specs.CommitRequest.{CommitRequest}
 use Rattle.gix.specs.View.{State, whole}
-use Rattle.gix.specs.Base.{HasTree, HasRoot, IsMapOf, IsBaseTree, IsBase}
+use Rattle.gix.specs.Base.{HasTree, HasRoot, IsMapOf, IsBaseTree}
 use Rattle.gix.specs.Trees.{EditsView}
 use Rattle.gix.specs.LawsBelow.{MapIsUnique}
-use Rattle.gix.proofs.ReferenceLemmas.{one_last}
 
 -- ---- what is stored under an id
 
@@ -73,12 +66,3 @@ one_view exists r state v w a b =
     a.is_end load.0 load.1
     ∙ ap (λ es. edited_view state.hash load.0 (only (names_of es)) r.edits) (one_root state r.parents a.entries b.entries a.is_base b.is_base)
     ∙ sym (b.is_end load.0 load.1)
-
--- ---- the way
-
-module _ (meets : MeetsOne) (targets : FinMap name_cmp Target) (name : List ℕ) (names others : List (List ℕ)) (end stop : List ℕ) (found other : Option Target) (a : EndsIn targets name names end found) (b : EndsIn targets name others stop other) where
-  pub one_end : end ≡ stop
-  one_end = one_last a.walks.before b.walks.before end stop (sym a.walks.last ∙ (meets targets name Ending Ending names others (end, found, a) (stop, other, b)).1 ∙ b.walks.last)
-
-  pub one_found : found ≡ other
-  one_found = a.is ∙ ap (get targets) one_end ∙ sym b.is

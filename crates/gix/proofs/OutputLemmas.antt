@@ -1,7 +1,6 @@
--- What is written of one view are the same entries and the same trees, in whatever order.
-use Rattle.std.proofs.Common.{◌≡◌, ◌≢◌, ◌⊎◌, ◌∙◌, inl, inr, sym, ap, refl, subst, List, [], ◌∷◌, ◌++◌, map, Option, Some, IsSome, Contains, ℕ}
+-- What is written of one view are the same entries and the same trees, in whatever order, and one root.
+use Rattle.std.proofs.Common.{◌≡◌, ◌≢◌, ◌⊎◌, ◌∙◌, inl, inr, sym, ap, refl, subst, List, [], map, IsSome, Contains, ℕ}
 use Rattle.std.proofs.lemmas.List.{append-nil}
-use Rattle.std.specs.List.{flat_map}
 use Rattle.gx_hash.specs.declared.kind.HashKind.{HashKind}
 use Rattle.gx_object.specs.declared.kind.Kind.{Kind}
 use Rattle.gx_object.specs.declared.tree.Entry.{Entry}
@@ -9,7 +8,7 @@ use Rattle.gx_edit.specs.Path.{Path}
 use Rattle.gx_edit.specs.LawsView.{WrittenOnce}
 use Rattle.gx_edit.specs.Output.{Output}
 use Rattle.gx_edit.specs.View as directories
-use Rattle.gx_edit.specs.Written.{IsWritten, IsWrittenAt, IsLeftOut, IsOutputOfView, inside, tree_with}
+use Rattle.gx_edit.specs.Written.{IsWritten, IsWrittenAt, IsLeftOut, IsOutputOfView, inside, tree_with, id_with}
 use Rattle.gx_edit.specs.Written.IsWritten.{written}
 use Rattle.gix.proofs.Lists.{beside, beside_second, in_joined, joined_from, in_mapped, mapped_from}
 
@@ -17,6 +16,9 @@ root_there : (hash : HashKind) (v : directories.View) (rows : List Entry) → Is
 root_there hash v rows (written _ names inner _ root deeper list) = subst IsSome (sym root) refl
 
 module _ (once : WrittenOnce) (hash : HashKind) (v : directories.View) (a b : Output) (x : IsOutputOfView hash v a) (y : IsOutputOfView hash v b) where
+  pub same_root : a.root ≡ b.root
+  same_root = x.root.2 ∙ ap (id_with hash) (once hash v x.root.0 y.root.0 x.root.1 y.root.1) ∙ sym y.root.2
+
   there : (p : Path) (rows : List Entry) → IsWrittenAt hash v p rows → IsSome (v p)
   there p rows w = subst (λ q. IsSome (v q)) (append-nil p) (root_there hash (inside v p) rows w.written)
 

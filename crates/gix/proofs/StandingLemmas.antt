@@ -1,9 +1,9 @@
 -- What the directories of a request stand for, where its base has a path map.
-use Rattle.std.proofs.Common.{◌≡◌, ◌∙◌, sym, ap, refl, subst, List, [], ◌∷◌, ℕ, Bool, true, false, not, ◌&&◌, true≢false, Option, Some, None}
+use Rattle.std.proofs.Common.{◌≡◌, ◌∙◌, sym, ap, refl, subst, List, [], ◌∷◌, Bool, true, false, not, ◌&&◌, true≢false, Option, Some, None}
 use Rattle.std.specs.List.{AllByRecursion}
 use Rattle.gx_hash.specs.declared.oid.ObjectId.{ObjectId}
 use Rattle.gx_object.specs.declared.tree.Entry.{Entry}
-use Rattle.gx_edit.specs.Path.{Path, components}
+use Rattle.gx_edit.specs.Path.{components}
 use Rattle.gx_edit.specs.PathList.{has_empty_name}
 use Rattle.gx_edit.specs.PathMap.{PathMap, no_paths, edited, path_of}
 use Rattle.gx_edit.specs.CanonicalTree.{Directory, StandsFor}
@@ -16,7 +16,7 @@ use Rattle.gx_edit.specs.declared.path_edit.PathEdit.{PathEdit}
 use Rattle.gix.specs.declared.settings.Settings.{Settings}
 use Rattle.gix.specs.CommitRequest.{CommitRequest}
 use Rattle.gix.specs.View.{State, whole}
-use Rattle.gix.specs.Base.{IsMapOf, IsBaseTree, IsBase}
+use Rattle.gix.specs.Base.{IsBaseTree, IsBase}
 use Rattle.gix.specs.Trees.{EditsView, MayWrite, has_gap, have_names}
 use Rattle.gix.specs.LawsBelow.{LawsBelow}
 use Rattle.gix.proofs.OnceLemmas.{one_tree}

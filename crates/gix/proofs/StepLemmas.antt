@@ -16,9 +16,9 @@ use Rattle.gix.specs.CommitRequest.{CommitRequest}
 use Rattle.gix.specs.View.{View, State, whole, view_of}
 use Rattle.gix.specs.Trees.{brought}
 use Rattle.gix.specs.LawsBelow.{LawsBelow}
-use Rattle.gix.specs.Reference.{Way}
 use Rattle.gix.specs.Admission.{IsAdmitted}
-use Rattle.gix.specs.CommitEdits.{Commits, Leaves, LeavesFault, HasBegun, IsTornBy, commit_id, commit_text, written_objects}
+use Rattle.gix.specs.CommitEdits.{Commits, Leaves, LeavesFault, HasBegun, IsTornBy, written_objects}
+use Rattle.gix.specs.NewCommit.{commit_id, commit_text}
 use Rattle.gix.specs.Held.{BothTold, state_told}
 use Rattle.gix.specs.Machine.{Accepts}
 use Rattle.gix.specs.History.{AddsCommit, CallStep}
@@ -65,11 +65,11 @@ module _ (laws : LawsBelow) (settings : Settings) (r : CommitRequest) (old new :
       sym (ap (λ (v : View). option_map (with_objects v.hash objects) v.content) was) ∙ sym same ∙ ap (λ (v : View). v.content) is in
       subst (Adds before.hash objects before.content) (one_content (with_objects before.hash objects before.content) after.content told) (laws.writing before.hash objects before.content)
 
-  admitted_in : (output : Output) (way : Way) → IsAdmitted settings r (view_of old) output way → IsAdmitted settings r (whole before) output way
-  admitted_in output way a = subst (λ v. IsAdmitted settings r v output way) was a
+  admitted_in : (output : Output) → IsAdmitted settings r (view_of old) output → IsAdmitted settings r (whole before) output
+  admitted_in output a = subst (λ v. IsAdmitted settings r v output) was a
 
-  whole_commit : (output : Output) (way : Way) → IsAdmitted settings r (view_of old) output way → Adds before.hash (written_objects r output) before.content after.content → AddsCommit settings r before (commit_id before.hash r output) after
-  whole_commit output way a added = record { output = output; way = way; admitted = admitted_in output way a; is_id = refl; adds = added }
+  whole_commit : (output : Output) → IsAdmitted settings r (view_of old) output → Adds before.hash (written_objects r output) before.content after.content → AddsCommit settings r before (commit_id before.hash r output) after
+  whole_commit output a added = record { output = output; admitted = admitted_in output a; is_id = refl; adds = added }
 
   untouched : (e : CommitEditsError) → new ≡ old → Stepped e
   untouched e same =
@@ -89,14 +89,14 @@ module _ (laws : LawsBelow) (settings : Settings) (r : CommitRequest) (old new :
       go [] split =
           let all : b.grows.first ≡ written_objects r b.output = sym (append-nil b.grows.first) ∙ sym split in (
             Some (commit_id before.hash r b.output),
-            record { hash = hash; left = whole_commit b.output b.way b.admitted (subst (λ l. Adds before.hash l before.content after.content) all added) },
+            record { hash = hash; left = whole_commit b.output b.admitted (subst (λ l. Adds before.hash l before.content after.content) all added) },
           )
       go (x ∷ rest) split =
           let less = all_but_last (brought r b.output) b.grows.first (kind.Commit, commit_text r b.output) x rest split in (
             None,
             record {
               hash = hash;
-              left = inr (record { output = b.output; way = b.way; admitted = admitted_in b.output b.way b.admitted; first = b.grows.first; rest = less.0; split = less.1; adds = added });
+              left = inr (record { output = b.output; admitted = admitted_in b.output b.admitted; first = b.grows.first; rest = less.0; split = less.1; adds = added });
             },
           )
 
@@ -104,7 +104,7 @@ module _ (laws : LawsBelow) (settings : Settings) (r : CommitRequest) (old new :
   torn e t =
       let content : new.content ≡ option_map (with_objects old.hash (written_objects r t.output)) old.content = ap (λ (s : StoreState). s.content) t.torn.same ∙ ap (λ (s : StoreState). s.content) t.becomes.same in
       let hash : new.hash ≡ old.hash = ap (λ (s : StoreState). s.hash) t.torn.same ∙ ap (λ (s : StoreState). s.hash) t.becomes.same in
-      (Some (commit_id before.hash r t.output), record { hash = hash_after hash; left = whole_commit t.output t.way t.admitted (adds (written_objects r t.output) content) })
+      (Some (commit_id before.hash r t.output), record { hash = hash_after hash; left = whole_commit t.output t.admitted (adds (written_objects r t.output) content) })
 
   faulty : (fault : What) → LeavesFault settings r old new fault → Stepped (error.Store fault)
   faulty what.Write l = ⊎_elim (begun (error.Store what.Write)) (torn (error.Store what.Write)) l

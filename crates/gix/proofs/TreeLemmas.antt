@@ -24,7 +24,7 @@ use Rattle.gix.specs.declared.error.CommitEditsError.TheVariants as error
 use Rattle.gix.specs.CommitRequest.{CommitRequest}
 use Rattle.gix.specs.View.{view_of}
 use Rattle.gix.specs.Trees.{Makes, IsFound, brought}
-use Rattle.gix.specs.Lifting.{lifted, HasPlace}
+use Rattle.gix.specs.Lifting.{lifted}
 use Rattle.gix.specs.Stages.{StageCauses, IsEditedBy, AreTreesOf, blob_ids}
 use Rattle.gix.proofs.Told.{told_with}
 

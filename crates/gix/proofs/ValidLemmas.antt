@@ -1,7 +1,6 @@
 -- A valid request may be made: what is said of paths is said of the entries of its trees.
-use Rattle.std.proofs.Common.{◌≡◌, ◌≢◌, ◌∙◌, sym, ap, refl, subst, arith, List, [], ◌∷◌, ◌++◌, map, length, ℕ, suc, zero, Bool, true, false, not, ◌&&◌, ◌==◌, eqb-true, cond, ◌||◌, Option, Some, None, inl, inr, ◌⊎◌, Contains}
+use Rattle.std.proofs.Common.{◌≡◌, ◌≢◌, ◌∙◌, sym, ap, refl, subst, arith, List, [], ◌∷◌, ◌++◌, map, length, ℕ, suc, Bool, true, false, not, ◌&&◌, ◌==◌, eqb-true, cond, ◌||◌, Option, Some, None, inl, inr, ◌⊎◌, Contains}
 use Rattle.std.specs.List.{AllByRecursion, list_all}
-use Rattle.gx_hash.specs.declared.oid.ObjectId.{ObjectId}
 use Rattle.gx_hash.specs.ObjectIds.{has_id}
 use Rattle.gx_rules.specs.Component.{IsComponent}
 use Rattle.gx_rules.specs.declared.component_error.ComponentError.TheVariants as rule
@@ -27,7 +26,7 @@ use Rattle.gix.specs.CommitRequest.{CommitRequest}
 use Rattle.gix.specs.View.{State, whole}
 use Rattle.gix.specs.Trees.{Makes, IsFound, brought}
 use Rattle.gix.specs.LawsBelow.{LawsBelow}
-use Rattle.gix.specs.Reference.{Way}
+use Rattle.gix.specs.NewCommit.{commit_id}
 use Rattle.gix.specs.Admission.{AreComponents, IsAdmitted, IsValidCommit}
 use Rattle.gix.proofs.Lists.{all_at, all_of, is_found, in_mapped, in_front, in_back}
 use Rattle.gix.proofs.StandingLemmas.{end_stands}
@@ -147,19 +146,16 @@ module _ (laws : LawsBelow) (settings : Settings) (r : CommitRequest) (state : S
       held (inl written) = inr (ap (has_id (map (id_of state.hash) (brought r output))) written.2 ∙ brought_has written.0 (in_back (blobs_of r.edits) output.trees written.0 written.1))
       held (inr stored) = inl stored
 
-  pub admitted : (way : Way) × IsAdmitted settings r (whole state) output way
-  admitted = (
-    v.way,
-    record {
-      objects = record {
-        trees = record {
-          makes = m;
-          spelled = all_of (λ (entry : Entry). is_writable_filename entry.filename ≡ true) output.entries (λ entry among. writable settings.protect (is_link entry) entry.filename (fit entry (all_at Stands output.entries entry all_stand among)));
-          safe = all_of (IsSafe (Some settings.protect)) output.entries (λ entry among. (fit entry (all_at Stands output.entries entry all_stand among)).0);
-          found = all_of (IsFound (whole state) (brought r output)) output.entries (λ entry among. found entry (all_at Stands output.entries entry all_stand among));
-        };
-        identities = v.identities;
+  pub admitted : IsAdmitted settings r (whole state) output
+  admitted = record {
+    objects = record {
+      trees = record {
+        makes = m;
+        spelled = all_of (λ (entry : Entry). is_writable_filename entry.filename ≡ true) output.entries (λ entry among. writable settings.protect (is_link entry) entry.filename (fit entry (all_at Stands output.entries entry all_stand among)));
+        safe = all_of (IsSafe (Some settings.protect)) output.entries (λ entry among. (fit entry (all_at Stands output.entries entry all_stand among)).0);
+        found = all_of (IsFound (whole state) (brought r output)) output.entries (λ entry among. found entry (all_at Stands output.entries entry all_stand among));
       };
-      reference = v.reference;
-    },
-  )
+      identities = v.identities;
+    };
+    reference = v.reference (commit_id state.hash r output);
+  }

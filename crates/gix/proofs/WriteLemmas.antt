@@ -14,7 +14,8 @@ use Rattle.gx_edit.specs.Output.{Output}
 use Rattle.gx_edit.specs.declared.path_edit.PathEdit.{PathEdit}
 use Rattle.gix.specs.CommitRequest.{CommitRequest}
 use Rattle.gix.specs.Trees.{brought}
-use Rattle.gix.specs.CommitEdits.{Grows, commit_text, commit_id, written_objects}
+use Rattle.gix.specs.CommitEdits.{Grows, written_objects}
+use Rattle.gix.specs.NewCommit.{commit_text, commit_id}
 use Rattle.gix.specs.Stages.{blob_ids}
 use Rattle.gix.proofs.Growth.{stores_more, becomes_then, becomes_itself}
 use Rattle.gix.proofs.EditLemmas.{blob_ids-cons}

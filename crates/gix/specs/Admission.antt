@@ -1,5 +1,6 @@
 -- Which requests for a commit may be made.
 use Rattle.std.specs.Prelude.{◌≡◌, ◌≢◌, Bool, true, false, [], ◌∷◌, Some, Contains}
+use Rattle.gx_hash.specs.declared.oid.ObjectId.{ObjectId}
 use Rattle.gx_rules.specs.Component.{IsComponent}
 use Rattle.gx_rules.specs.declared.component_rules.Protect.{Protect}
 use Rattle.gx_object.specs.declared.tree.EntryKind.TheVariants as entry_kind
@@ -11,11 +12,13 @@ use Rattle.gx_edit.specs.PathMap.{PathMap}
 use Rattle.gx_edit.specs.Entries.{is_link_kind}
 use Rattle.gx_edit.specs.Output.{Output}
 use Rattle.gx_edit.specs.declared.leaf.Leaf.{Leaf}
+use Rattle.gx_refs.specs.EditCauses.{MayBeMade}
 use Rattle.gix.specs.declared.settings.Settings.{Settings}
 use Rattle.gix.specs.CommitRequest.{CommitRequest}
 use Rattle.gix.specs.View.{View, State, whole}
 use Rattle.gix.specs.Trees.{Edits, MayWrite}
-use Rattle.gix.specs.Reference.{Way, MayMove}
+use Rattle.gix.specs.NewCommit.{commit_id}
+use Rattle.gix.specs.Reference.{commit_terms, edits_of}
 
 -- Both identities of the request can be written. (git-commit(1), "Commit Information")
 abbrev pub AreWritable : CommitRequest → Type 0
@@ -27,10 +30,9 @@ pub record MayStore (settings : Settings) (r : CommitRequest) (view : View) (out
   pub identities : AreWritable r
 
 -- The commit may be made: its objects may be written, and its reference may be moved to it.
-pub record IsAdmitted (settings : Settings) (r : CommitRequest) (view : View) (output : Output)
-    (way : Way) : Type 0 where
+pub record IsAdmitted (settings : Settings) (r : CommitRequest) (view : View) (output : Output) : Type 0 where
   pub objects : MayStore settings r view output
-  pub reference : MayMove r view.references way
+  pub reference : MayBeMade (commit_terms settings r) view.references (edits_of r (commit_id view.hash r output))
 
 -- ---- the same, said of paths
 
@@ -53,12 +55,12 @@ HasStoredLeaves content m = (p : Path) (leaf : Leaf) → m p ≡ Some leaf
     → kind_of_mode leaf.mode.value ≢ entry_kind.Commit → IsStored content leaf.id
 
 -- A valid request: it has no parent, or its first parent's tree has a path map, whose leaves are stored; its edits make
--- of that a map whose names may all be checked out; both identities can be written; and its reference may be moved.
+-- of that a map whose names may all be checked out; both identities can be written; and its reference may be moved to
+-- any commit.
 pub record IsValidCommit (settings : Settings) (r : CommitRequest) (state : State) : Type 0 where
   pub new_map : PathMap
   pub edits : Edits r (whole state) new_map
   pub leaves : HasStoredLeaves state.content edits.base
   pub paths : HasSafePaths settings.protect new_map
   pub identities : AreWritable r
-  pub way : Way
-  pub reference : MayMove r (Some state.references) way
+  pub reference : (id : ObjectId) → MayBeMade (commit_terms settings r) (Some state.references) (edits_of r id)

@@ -1,6 +1,5 @@
 -- Why a commit of edits is refused.
-use Rattle.std.specs.Prelude.{◌≡◌, ◌≢◌, ◌⊎◌, ℕ, true, false, List, [], ◌∷◌, ◌++◌, map, codes, Option, Some, None, IsTrue, IsSome, IfSome}
-use Rattle.std.specs.FinMap.{get}
+use Rattle.std.specs.Prelude.{◌≡◌, ◌≢◌, ◌⊎◌, ℕ, true, false, List, ◌∷◌, ◌++◌, map, Option, Some, None, IsTrue, IfSome}
 use Rattle.gx_hash.specs.declared.kind.HashKind.{HashKind}
 use Rattle.gx_hash.specs.declared.oid.ObjectId.{ObjectId}
 use Rattle.gx_rules.specs.Component.{IsFirstViolated}
@@ -15,7 +14,6 @@ use Rattle.gx_object.specs.Identity.{are_writable}
 use Rattle.gx_object.specs.Mode.{kind_of_mode}
 use Rattle.gx_object.specs.Tree.{is_writable_filename}
 use Rattle.gx_object.specs.TreeSpelling.{SpellsTree}
-use Rattle.gx_store.specs.Conflict.{Conflict}
 use Rattle.gx_store.specs.Content.{IsStored, lookup, id_of}
 use Rattle.gx_store.specs.Faults.{Rose}
 use Rattle.gx_store.specs.State.{StoreState}
@@ -23,14 +21,14 @@ use Rattle.gx_store.specs.declared.error.StoreError.{StoreError}
 use Rattle.gx_store.specs.declared.error.StoreError.TheVariants as store_error
 use Rattle.gx_store.specs.declared.error.What.{What}
 use Rattle.gx_store.specs.declared.error.What.TheVariants as what
-use Rattle.gx_store.specs.declared.target.Target.{Target}
-use Rattle.gx_store.specs.declared.target.Target.TheVariants as target
 use Rattle.gx_hash.specs.ObjectIds.{has_id}
 use Rattle.gx_edit.specs.PathMap.{path_of}
 use Rattle.gx_edit.specs.Entries.{IsEntry, is_link}
 use Rattle.gx_edit.specs.Output.{Output, SomeEntry}
 use Rattle.gx_edit.specs.declared.path_edit.PathEdit.{PathEdit}
-use Rattle.gx_refs.specs.Chain.{EndsIn, Cycles, IsTooDeep, IsOnChain}
+use Rattle.gx_refs.specs.EditCauses.{EditRefusal, IsEditFault}
+use Rattle.gx_refs.specs.declared.error.RefError.{RefError}
+use Rattle.gx_refs.specs.declared.error.RefError.TheVariants as ref_error
 use Rattle.gix.specs.declared.settings.Settings.{Settings}
 use Rattle.gix.specs.declared.error.CommitEditsError.{CommitEditsError}
 use Rattle.gix.specs.declared.error.CommitEditsError.TheVariants.{FindExistingObject, ObjectKind, Decode, EmptyPathComponent, InvalidFilename, MissingObject, WriteObject, Cycle, DepthLimitExceeded, MustExist, MustNotExist, ReferenceOutOfDate, NameConflict, Store, NoMemory}
@@ -39,6 +37,8 @@ use Rattle.gix.specs.View.{View, view_of}
 use Rattle.gix.specs.Base.{HasTree, IsBaseTree, OfFirst}
 use Rattle.gix.specs.Trees.{has_gap, have_names, IsLoaded, Makes, brought, MayWrite}
 use Rattle.gix.specs.Admission.{MayStore}
+use Rattle.gix.specs.NewCommit.{commit_id}
+use Rattle.gix.specs.Reference.{commit_terms, edits_of}
 
 -- ---- what is read
 
@@ -119,14 +119,18 @@ IsUnwritable settings r view field = (output : Output) × MayWrite settings r vi
 
 -- ---- the reference
 
--- all of the request's objects may be written
-abbrev pub IsStorable : Settings → CommitRequest → View → Type 0
-IsStorable settings r view = (output : Output) × MayStore settings r view output
+-- The request's objects may be written, and the edit of its reference is refused.
+pub record IsMoveRefused (settings : Settings) (r : CommitRequest) (view : View) (refusal : RefError) : Type 0 where
+  pub output : Output
+  pub may : MayStore settings r view output
+  pub refused : EditRefusal (commit_terms settings r) view.references (edits_of r (commit_id view.hash r output))
+      refusal
 
--- the reference's way ends at the name, which names this
-abbrev pub EndsAt : CommitRequest → View → List ℕ → Option Target → Type 0
-EndsAt r view name found = IfSome view.references (λ refs. (names : List (List ℕ))
-    × EndsIn refs.targets r.reference names name found)
+-- The request's objects may be written, and what the edit of its reference reads can't be.
+pub record IsMoveFault (settings : Settings) (r : CommitRequest) (state : StoreState) (fault : What) : Type 0 where
+  pub output : Output
+  pub may : MayStore settings r (view_of state) output
+  pub unread : IsEditFault (commit_terms settings r) state (edits_of r (commit_id state.hash r output)) fault
 
 -- ---- causes
 
@@ -145,19 +149,13 @@ Cause settings r view (InvalidFilename filename kind id source) =
 Cause settings r view (MissingObject filename kind id) =
     OfEntry r view (λ output entry. IsEntry entry filename kind id × IsMissing r view output entry)
 Cause settings r view (WriteObject field) = IsUnwritable settings r view field
-Cause settings r view (Cycle name) = IsStorable settings r view × (name ≡ r.reference)
-    × IfSome view.references (λ refs. Cycles refs.targets r.reference)
-Cause settings r view (DepthLimitExceeded name) = IsStorable settings r view × (name ≡ r.reference)
-    × IfSome view.references (λ refs. IsTooDeep refs.targets r.reference)
-Cause settings r view (MustExist name) = IsStorable settings r view × (r.reference ≡ codes "HEAD") × (r.parents ≢ [])
-    × EndsAt r view name None
-Cause settings r view (MustNotExist name actual) = IsStorable settings r view × (r.parents ≡ [])
-    × EndsAt r view name (Some actual)
-Cause settings r view (ReferenceOutOfDate name expected actual) = IsStorable settings r view
-    × OfFirst r.parents (λ parent. expected ≡ target.Object parent) × (actual ≢ expected)
-    × EndsAt r view name (Some actual)
-Cause settings r view (NameConflict name other) = IsStorable settings r view × Conflict name other
-    × EndsAt r view name None × IfSome view.references (λ refs. IsSome (get refs.targets other))
+Cause settings r view (Cycle name) = IsMoveRefused settings r view (ref_error.Cycle name)
+Cause settings r view (DepthLimitExceeded name) = IsMoveRefused settings r view (ref_error.DepthLimitExceeded name)
+Cause settings r view (MustExist name) = IsMoveRefused settings r view (ref_error.MustExist name)
+Cause settings r view (MustNotExist name actual) = IsMoveRefused settings r view (ref_error.MustNotExist name actual)
+Cause settings r view (ReferenceOutOfDate name expected actual) =
+    IsMoveRefused settings r view (ref_error.ReferenceOutOfDate name expected actual)
+Cause settings r view (NameConflict name other) = IsMoveRefused settings r view (ref_error.NameConflict name other)
 Cause settings r view (Store fault) = ⊥
 Cause settings r view NoMemory = ⊥
 
@@ -173,9 +171,10 @@ abbrev pub HasFault : Settings → CommitRequest → StoreState → StoreState �
 HasFault settings r old new (what.Object id) = IsTrue (old.unreadable (what.Object id))
     × IsObjectRead r (view_of old) id
 HasFault settings r old new (what.Name name) = IsTrue (old.unreadable (what.Name name))
-    × IsStorable settings r (view_of old) × IfSome old.references (λ refs. IsOnChain refs.targets r.reference name)
+    × IsMoveFault settings r old (what.Name name)
 HasFault settings r old new what.Index = ⊥
-HasFault settings r old new what.Listing = IsTrue (old.unreadable what.Listing) × IsStorable settings r (view_of old)
+HasFault settings r old new what.Listing = IsTrue (old.unreadable what.Listing)
+    × IsMoveFault settings r old what.Listing
 HasFault settings r old new what.Write = Rose old.faults new.faults
 
 -- Nothing is unreadable, and no fault of writing was counted.

@@ -1,15 +1,10 @@
 -- What a commit of edits writes, and what its refusals leave.
 use Rattle.std.specs.Prelude.{◌≡◌, ◌⊎◌, ℕ, List, [], ◌∷◌, ◌++◌}
-use Rattle.gx_hash.specs.declared.kind.HashKind.{HashKind}
 use Rattle.gx_hash.specs.declared.oid.ObjectId.{ObjectId}
-use Rattle.gx_hash.specs.ObjectId.{object_id}
 use Rattle.gx_object.specs.declared.kind.Kind.{Kind}
 use Rattle.gx_object.specs.declared.kind.Kind.TheVariants as kind
-use Rattle.gx_object.specs.Kind.{kind_name}
-use Rattle.gx_object.specs.Commit.{plain_commit_bytes}
 use Rattle.gx_store.specs.State.{StoreState, Becomes, all_stored}
 use Rattle.gx_store.specs.Change.{applied, AfterFault}
-use Rattle.gx_store.specs.declared.change.RefChange.{RefChange}
 use Rattle.gx_store.specs.declared.error.What.{What}
 use Rattle.gx_store.specs.declared.error.What.TheVariants as what
 use Rattle.gx_edit.specs.Output.{Output}
@@ -19,16 +14,10 @@ use Rattle.gix.specs.declared.error.CommitEditsError.TheVariants.{Store, NoMemor
 use Rattle.gix.specs.CommitRequest.{CommitRequest}
 use Rattle.gix.specs.View.{view_of}
 use Rattle.gix.specs.Trees.{brought}
-use Rattle.gix.specs.Reference.{Way, Moves}
+use Rattle.gx_refs.specs.Prepared.{Prepares, Ready}
+use Rattle.gix.specs.NewCommit.{commit_id, commit_text}
+use Rattle.gix.specs.Reference.{commit_terms, edits_of}
 use Rattle.gix.specs.Admission.{IsAdmitted}
-
--- the bytes of the commit over the root of the trees
-abbrev pub commit_text : CommitRequest → Output → List ℕ
-commit_text r output = plain_commit_bytes output.root r.parents r.author r.committer r.message
-
--- the id of that commit
-abbrev pub commit_id : HashKind → CommitRequest → Output → ObjectId
-commit_id hash r output = object_id hash (kind_name kind.Commit) (commit_text r output)
 
 -- A commit brings the blobs of its edits, the trees of the directories that its edits go through, the root's always,
 -- and itself, and nothing else.
@@ -41,12 +30,11 @@ written_objects r output = brought r output ++ (kind.Commit, commit_text r outpu
 pub record Commits (settings : Settings) (r : CommitRequest) (old : StoreState) (id : ObjectId)
     (new : StoreState) : Type 0 where
   pub output : Output
-  pub way : Way
-  pub admitted : IsAdmitted settings r (view_of old) output way
+  pub admitted : IsAdmitted settings r (view_of old) output
   pub is_id : id ≡ commit_id old.hash r output
-  pub changes : List RefChange
-  pub moves : Moves settings old.hash r old.references way id changes
-  pub becomes : Becomes (applied changes (all_stored (written_objects r output) old)) new
+  pub ready : Ready
+  pub prepared : Prepares (commit_terms settings r) old.references (edits_of r id) ready
+  pub becomes : Becomes (applied ready.changes (all_stored (written_objects r output) old)) new
 
 -- The first of the objects were stored, in the order in which each comes after all that it names, and
 -- nothing else is changed.
@@ -59,21 +47,19 @@ pub record Grows (objects : List (Kind × List ℕ)) (old new : StoreState) : Ty
 -- A request that may be made has some first objects stored.
 pub record HasBegun (settings : Settings) (r : CommitRequest) (old new : StoreState) : Type 0 where
   pub output : Output
-  pub way : Way
-  pub admitted : IsAdmitted settings r (view_of old) output way
+  pub admitted : IsAdmitted settings r (view_of old) output
   pub grows : Grows (written_objects r output) old new
 
 -- A request that may be made has all its objects stored, and a fault left each name on its reference's way, and each
 -- log there, old or new.
 pub record IsTornBy (settings : Settings) (r : CommitRequest) (old new : StoreState) : Type 0 where
   pub output : Output
-  pub way : Way
-  pub admitted : IsAdmitted settings r (view_of old) output way
-  pub changes : List RefChange
-  pub moves : Moves settings old.hash r old.references way (commit_id old.hash r output) changes
+  pub admitted : IsAdmitted settings r (view_of old) output
+  pub ready : Ready
+  pub prepared : Prepares (commit_terms settings r) old.references (edits_of r (commit_id old.hash r output)) ready
   pub stored : StoreState
   pub becomes : Becomes (all_stored (written_objects r output) old) stored
-  pub torn : AfterFault changes stored new
+  pub torn : AfterFault ready.changes stored new
 
 -- A fault of a read changes nothing; one of a write comes after some first objects, or tears the reference.
 abbrev pub LeavesFault : Settings → CommitRequest → StoreState → StoreState → What → Type 0

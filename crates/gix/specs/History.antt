@@ -19,9 +19,9 @@ use Rattle.gix.specs.declared.error.CommitEditsError.{CommitEditsError}
 use Rattle.gix.specs.CommitRequest.{CommitRequest, HaveModuleIds}
 use Rattle.gix.specs.View.{State, whole}
 use Rattle.gix.specs.Trees.{Makes, brought}
-use Rattle.gix.specs.Reference.{Way}
 use Rattle.gix.specs.Admission.{IsAdmitted}
-use Rattle.gix.specs.CommitEdits.{commit_id, written_objects}
+use Rattle.gix.specs.CommitEdits.{written_objects}
+use Rattle.gix.specs.NewCommit.{commit_id}
 use Rattle.gix.specs.Machine.{Accepts}
 
 -- A request that was answered, and the commit that the call left stored, if any: the one that it made, or one whose
@@ -37,16 +37,14 @@ pub record Call : Type 0 where
 pub record AddsCommit (settings : Settings) (r : CommitRequest) (old : State) (id : ObjectId)
     (new : State) : Type 0 where
   pub output : Output
-  pub way : Way
-  pub admitted : IsAdmitted settings r (whole old) output way
+  pub admitted : IsAdmitted settings r (whole old) output
   pub is_id : id ≡ commit_id old.hash r output
   pub adds : Adds old.hash (written_objects r output) old.content new.content
 
 -- The first of the blobs and trees of a request that may be made were added, and its commit was not.
 pub record AddsFirst (settings : Settings) (r : CommitRequest) (old new : State) : Type 0 where
   pub output : Output
-  pub way : Way
-  pub admitted : IsAdmitted settings r (whole old) output way
+  pub admitted : IsAdmitted settings r (whole old) output
   pub first : List (Kind × List ℕ)
   pub rest : List (Kind × List ℕ)
   pub split : brought r output ≡ first ++ rest

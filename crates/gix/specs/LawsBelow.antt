@@ -4,7 +4,7 @@ use Rattle.gx_hash.specs.declared.kind.HashKind.{HashKind}
 use Rattle.gx_hash.specs.declared.oid.ObjectId.{ObjectId}
 use Rattle.gx_store.specs.Content.{Content}
 use Rattle.gx_store.specs.Laws.{WritingAdds, AddedIsFound, FoundStays}
-use Rattle.gx_refs.specs.Laws.{MeetsOne}
+use Rattle.gx_refs.specs.EditLaws.{MadeIsNotRefused}
 use Rattle.gx_edit.specs.Path.{Path}
 use Rattle.gx_edit.specs.PathMap.{PathMap}
 use Rattle.gx_edit.specs.CanonicalTree.{Represents}
@@ -44,4 +44,4 @@ pub record LawsBelow : Type 0 where
   pub writing : WritingAdds
   pub added : AddedIsFound
   pub found : FoundStays
-  pub meets : MeetsOne
+  pub made : MadeIsNotRefused

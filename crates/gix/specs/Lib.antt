@@ -15,9 +15,11 @@ pub mod Logs
 pub mod Machine
 pub mod MadeCommit
 pub mod Meaning
+pub mod NewCommit
 pub mod Reference
 pub mod References
 pub mod Repository
+pub mod Setting
 pub mod Space
 pub mod Stages
 pub mod TreeEditor

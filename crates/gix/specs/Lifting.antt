@@ -1,10 +1,10 @@
 -- How the refusals of the crates below are handed on.
 use Rattle.gx_edit.specs.declared.error.EditError.{EditError}
 use Rattle.gx_edit.specs.declared.error.EditError.TheVariants as edit_error
-use Rattle.gx_refs.specs.declared.chain_error.ChainError.{ChainError}
-use Rattle.gx_refs.specs.declared.chain_error.ChainError.TheVariants as chain_error
+use Rattle.gx_refs.specs.declared.error.RefError.{RefError}
+use Rattle.gx_refs.specs.declared.error.RefError.TheVariants as ref_error
 use Rattle.gix.specs.declared.error.CommitEditsError.{CommitEditsError}
-use Rattle.gix.specs.declared.error.CommitEditsError.TheVariants.{FindExistingObject, ObjectKind, Decode, InvalidFilename, MissingObject, WriteObject, Cycle, DepthLimitExceeded, Store, NoMemory}
+use Rattle.gix.specs.declared.error.CommitEditsError.TheVariants.{FindExistingObject, ObjectKind, Decode, InvalidFilename, MissingObject, WriteObject, Cycle, DepthLimitExceeded, MustExist, MustNotExist, ReferenceOutOfDate, NameConflict, Store, NoMemory}
 
 -- it tells of no empty component, and of no directory in place of a leaf
 abbrev pub HasPlace : EditError → Type 0
@@ -25,9 +25,25 @@ lifted (edit_error.WriteObject field) = WriteObject field
 lifted (edit_error.Store fault) = Store fault
 lifted edit_error.NoMemory = NoMemory
 
--- how a chain is refused, as the refusal of a commit
-abbrev pub of_chain : ChainError → CommitEditsError
-of_chain (chain_error.Cycle name) = Cycle name
-of_chain (chain_error.DepthLimitExceeded name) = DepthLimitExceeded name
-of_chain (chain_error.Store fault) = Store fault
-of_chain chain_error.NoMemory = NoMemory
+-- one edit whose lines are signed is refused so: it meets no other
+abbrev pub IsOfOne : RefError → Type 0
+IsOfOne (ref_error.DuplicateEdit name) = ⊥
+IsOfOne ref_error.MissingCommitter = ⊥
+IsOfOne (ref_error.Unwritable field) = ⊥
+IsOfOne (ref_error.NameValidation error) = ⊥
+IsOfOne refusal = Unit {0}
+
+-- of all but these four
+abbrev pub of_reference : RefError → CommitEditsError
+of_reference (ref_error.DuplicateEdit name) = NoMemory
+of_reference ref_error.MissingCommitter = NoMemory
+of_reference (ref_error.Unwritable field) = NoMemory
+of_reference (ref_error.NameValidation error) = NoMemory
+of_reference (ref_error.Cycle name) = Cycle name
+of_reference (ref_error.DepthLimitExceeded name) = DepthLimitExceeded name
+of_reference (ref_error.MustExist name) = MustExist name
+of_reference (ref_error.MustNotExist name actual) = MustNotExist name actual
+of_reference (ref_error.ReferenceOutOfDate name expected actual) = ReferenceOutOfDate name expected actual
+of_reference (ref_error.NameConflict name with) = NameConflict name with
+of_reference (ref_error.Store fault) = Store fault
+of_reference ref_error.NoMemory = NoMemory

@@ -12,10 +12,12 @@ use Rattle.gix.specs.declared.error.CommitEditsError.{CommitEditsError}
 use Rattle.gix.specs.CommitRequest.{CommitRequest}
 use Rattle.gix.specs.View.{State, whole}
 use Rattle.gix.specs.Base.{IsBase}
-use Rattle.gix.specs.Reference.{Way, moved_to}
+use Rattle.gx_refs.specs.EditCauses.{AreMade}
+use Rattle.gix.specs.Reference.{commit_terms, edits_of}
 use Rattle.gix.specs.Admission.{IsAdmitted}
 use Rattle.gix.specs.Causes.{Cause, CommitEditsCauses, store_part}
-use Rattle.gix.specs.CommitEdits.{Commits, Leaves, commit_id, written_objects}
+use Rattle.gix.specs.CommitEdits.{Commits, Leaves, written_objects}
+use Rattle.gix.specs.NewCommit.{commit_id}
 use Rattle.gix.specs.Meaning.{Meaning}
 
 -- An output is that of a map: a canonical directory stands for the map, the output's root is that of the directory, and
@@ -35,8 +37,7 @@ pub record IsWrittenOf (hash : HashKind) (output : Output) (m : PathMap) : Type 
 -- git-update-ref(1), git-config(1) "core.logAllRefUpdates")
 pub record Accepts (settings : Settings) (r : CommitRequest) (old : State) (id : ObjectId) (new : State) : Type 0 where
   pub output : Output
-  pub way : Way
-  pub admitted : IsAdmitted settings r (whole old) output way
+  pub admitted : IsAdmitted settings r (whole old) output
   pub is_id : id ≡ commit_id old.hash r output
   pub hash : new.hash ≡ old.hash
   pub adds : Adds old.hash (written_objects r output) old.content new.content
@@ -47,7 +48,7 @@ pub record Accepts (settings : Settings) (r : CommitRequest) (old : State) (id :
   pub represents : (base : PathMap) → IsBase (whole old) r.parents base
       → AreApart old.hash old.content (written_objects r output)
       → Represents old.hash new.content output.root (edited old.hash base r.edits)
-  pub references : new.references ≡ moved_to settings old.hash r way id old.references
+  pub references : AreMade (commit_terms settings r) (edits_of r id) old.references new.references
 
 -- A commit is refused: the cause of the refusal holds, and nothing is changed.
 pub record Refuses (settings : Settings) (r : CommitRequest) (old : State) (refusal : CommitEditsError)

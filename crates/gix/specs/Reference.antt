@@ -1,57 +1,49 @@
--- What the reference of a request has to name.
-use Rattle.std.specs.Prelude.{◌≡◌, ◌≢◌, ℕ, List, [], ◌∷◌, ◌++◌, codes, Option, Some, None, IfSome}
-use Rattle.gx_hash.specs.declared.kind.HashKind.{HashKind}
+-- The edit of a commit's reference.
+use Rattle.std.specs.Prelude.{Bool, true, false, ℕ, List, [], ◌∷◌, codes, Some}
+use Rattle.std.specs.Str.{bytes_eq}
 use Rattle.gx_hash.specs.declared.oid.ObjectId.{ObjectId}
-use Rattle.gx_store.specs.State.{RefState}
-use Rattle.gx_store.specs.Change.{refs_after}
-use Rattle.gx_store.specs.Conflict.{IsFree}
-use Rattle.gx_store.specs.declared.change.RefChange.{RefChange}
-use Rattle.gx_store.specs.declared.log_line.LogLine.{LogLine}
-use Rattle.gx_store.specs.declared.target.Target.{Target}
 use Rattle.gx_store.specs.declared.target.Target.TheVariants as target
-use Rattle.gx_refs.specs.Chain.{IsChain, IsEnd, EndsIn}
-use Rattle.gx_refs.specs.Log.{log_line}
-use Rattle.gx_refs.specs.Moving.{previous_id, moved, MovesAlong}
+use Rattle.gx_refs.specs.declared.edit.Change.TheVariants.{Update}
+use Rattle.gx_refs.specs.declared.edit.LogChange.{LogChange}
+use Rattle.gx_refs.specs.declared.edit.PreviousValue.{PreviousValue}
+use Rattle.gx_refs.specs.declared.edit.PreviousValue.TheVariants.{MustNotExist, MustExistAndMatch, ExistingMustMatch}
+use Rattle.gx_refs.specs.declared.edit.RefEdit.{RefEdit}
+use Rattle.gx_refs.specs.declared.edit.RefLog.TheVariants.{AndReference}
+use Rattle.gx_refs.specs.declared.terms.Terms.{Terms}
 use Rattle.gix.specs.declared.settings.Settings.{Settings}
 use Rattle.gix.specs.CommitRequest.{CommitRequest}
+use Rattle.gix.specs.EditReferences.{terms_in}
 use Rattle.gix.specs.Log.{commit_log_message}
+
+-- the object is asked for, or, but of `HEAD`, absence
+abbrev pub matched : Bool → ObjectId → PreviousValue
+matched true id = MustExistAndMatch (target.Object id)
+matched false id = ExistingMustMatch (target.Object id)
 
 -- A commit without a parent makes its reference. One with a parent moves it from the first parent, or makes it, if
 -- another name than `HEAD` was given. (gix, "commit_as"; git-update-ref(1), "<old-oid>")
-abbrev pub IsAllowed : List ℕ → List ObjectId → Option Target → Type 0
-IsAllowed name [] found = found ≡ None
-IsAllowed name (parent ∷ parents) None = name ≢ codes "HEAD"
-IsAllowed name (parent ∷ parents) (Some actual) = actual ≡ target.Object parent
+abbrev pub asked_of : List ℕ → List ObjectId → PreviousValue
+asked_of name [] = MustNotExist
+asked_of name (parent ∷ parents) = matched (bytes_eq name (codes "HEAD")) parent
 
--- The way of a reference: the names from the given one to the end, the end, and what that names.
-pub record Way : Type 0 where
-  pub names : List (List ℕ)
-  pub end : List ℕ
-  pub found : Option Target
+-- what the logs are told: the message of the commit, and nothing is forced
+abbrev pub log_of : CommitRequest → LogChange
+log_of r =
+    record { mode = AndReference; force_create_reflog = false; message = commit_log_message r.parents r.message }
 
--- The reference leads this way, its end names what it may, and where the end is absent no reference stands in its way.
--- (git-symbolic-ref(1); Git, refs.c, "refs_verify_refname_available")
-pub record MayMove (r : CommitRequest) (told : Option RefState) (way : Way) : Type 0 where
-  pub chain : IsChain r.reference way.names
-  pub before : List (List ℕ)
-  pub last : way.names ≡ before ++ way.end ∷ []
-  pub stops : IsEnd way.found
-  pub ends : IfSome told (λ refs. EndsIn refs.targets r.reference way.names way.end way.found)
-  pub allowed : IsAllowed r.reference r.parents way.found
-  pub free : way.found ≡ None → IfSome told (λ refs. IsFree refs.targets way.end)
+-- A commit is named by the end of its reference's chain, and each log on the way tells of it where a line is due.
+-- (git-symbolic-ref(1), git-config(1) "core.logAllRefUpdates")
+abbrev pub edit_of : CommitRequest → ObjectId → RefEdit
+edit_of r id = record {
+  change = Update (log_of r) (asked_of r.reference r.parents) (target.Object id);
+  name = r.reference;
+  deref = true;
+}
 
--- the line that the commit writes to logs
-abbrev pub commit_line : HashKind → CommitRequest → Way → ObjectId → LogLine
-commit_line hash r way id = log_line (previous_id hash way.found) id r.committer
-    (commit_log_message r.parents r.message)
+-- the list of that edit alone
+abbrev pub edits_of : CommitRequest → ObjectId → List RefEdit
+edits_of r id = edit_of r id ∷ []
 
--- the references after the commit: the end names it, and its line stands in each log on the way where one is due
-abbrev pub moved_to : Settings → HashKind → CommitRequest → Way → ObjectId → RefState → RefState
-moved_to settings hash r way id refs =
-    moved settings.log_mode way.names way.end id (commit_line hash r way id) refs
-
--- changes that make just that of the references; where these are not told, one change a name
-pub record Moves (settings : Settings) (hash : HashKind) (r : CommitRequest) (told : Option RefState) (way : Way)
-    (id : ObjectId) (changes : List RefChange) : Type 0 where
-  pub along : MovesAlong settings.log_mode way.names id (commit_line hash r way id) changes
-  pub moved : IfSome told (λ refs. refs_after changes refs ≡ moved_to settings hash r way id refs)
+-- what it is made under: the committer signs
+abbrev pub commit_terms : Settings → CommitRequest → Terms
+commit_terms settings r = terms_in settings (Some r.committer)

@@ -1,6 +1,5 @@
 -- Listings of references.
 use Rattle.std.specs.Prelude.{◌≡◌, ◌⊎◌, ◌&&◌, ◌||◌, ℕ, Bool, true, false, not, List, map, nat_eq, codes, bytes_eq, Option, Some, None, IfSome}
-use Rattle.std.specs.Borrow.{Bor}
 use Rattle.std.specs.List.{starts_with, AllByRecursion, list_all}
 use Rattle.gx_rules.specs.Path.{components}
 use Rattle.gx_store.specs.Kinds.{IsTargetOfKind}

@@ -1,5 +1,5 @@
 -- What the stages of a commit hand on, for the functions that go through them.
-use Rattle.std.specs.Prelude.{◌≡◌, ◌≢◌, ◌⊎◌, ℕ, true, false, List, [], map, codes, Option, Some, None, IsSome, IfSome}
+use Rattle.std.specs.Prelude.{◌≡◌, ◌≢◌, ◌⊎◌, ℕ, true, false, List, map, Some, None, IfSome}
 use Rattle.std.specs.List.{AllByRecursion}
 use Rattle.gx_hash.specs.declared.kind.HashKind.{HashKind}
 use Rattle.gx_hash.specs.declared.oid.ObjectId.{ObjectId}
@@ -7,14 +7,9 @@ use Rattle.gx_object.specs.declared.kind.Kind.{Kind}
 use Rattle.gx_object.specs.declared.kind.Kind.TheVariants as kind
 use Rattle.gx_object.specs.declared.tree.Entry.{Entry}
 use Rattle.gx_object.specs.declared.tree.EntryKind.{EntryKind}
-use Rattle.std.specs.FinMap.{get}
 use Rattle.gx_object.specs.Identity.{are_writable}
-use Rattle.gx_store.specs.Conflict.{Conflict}
-use Rattle.gx_store.specs.declared.target.Target.{Target}
-use Rattle.gx_store.specs.declared.target.Target.TheVariants as target
 use Rattle.gx_store.specs.Content.{lookup, id_of}
-use Rattle.gx_store.specs.Change.{HaveDistinctNames}
-use Rattle.gx_store.specs.Kinds.{AreChangesOfKind, IsTargetOfKind}
+use Rattle.gx_store.specs.Kinds.{AreChangesOfKind}
 use Rattle.gx_store.specs.State.{StoreState, IsUnreadable}
 use Rattle.gx_store.specs.declared.error.What.TheVariants as what
 use Rattle.gx_edit.specs.Path.{components}
@@ -31,21 +26,21 @@ use Rattle.gx_edit.specs.declared.editor.Editor.{Editor}
 use Rattle.gx_edit.specs.declared.error.EditError.{EditError}
 use Rattle.gx_edit.specs.declared.error.EditError.TheVariants as edit_error
 use Rattle.gx_edit.specs.declared.path_edit.PathEdit.{PathEdit}
-use Rattle.gx_refs.specs.declared.resolving.Chain.{Chain}
+use Rattle.gx_refs.specs.Prepared.{Prepares}
 use Rattle.gix.specs.declared.settings.Settings.{Settings}
 use Rattle.gix.specs.declared.error.CommitEditsError.{CommitEditsError}
-use Rattle.gix.specs.declared.error.CommitEditsError.TheVariants.{FindExistingObject, ObjectKind, Decode, EmptyPathComponent, WriteObject, MustExist, MustNotExist, ReferenceOutOfDate, NameConflict, Store, NoMemory}
+use Rattle.gix.specs.declared.error.CommitEditsError.TheVariants.{FindExistingObject, ObjectKind, Decode, EmptyPathComponent, WriteObject, Store, NoMemory}
 use Rattle.gix.specs.declared.edits.Edited.{Edited}
 use Rattle.gix.specs.declared.plan.Plan.{Plan}
 use Rattle.gix.specs.declared.plan.NewObjects.{NewObjects}
 use Rattle.gix.specs.CommitRequest.{CommitRequest}
 use Rattle.gix.specs.Lifting.{lifted}
 use Rattle.gix.specs.View.{view_of}
-use Rattle.gix.specs.Base.{IsBaseTree, OfFirst}
+use Rattle.gix.specs.Base.{IsBaseTree}
 use Rattle.gix.specs.Trees.{WhereLoaded, IsLoadedBy, EditsView, MayWrite, have_names}
-use Rattle.gix.specs.Reference.{Way, MayMove, Moves}
+use Rattle.gix.specs.Reference.{commit_terms, edits_of}
 use Rattle.gix.specs.Admission.{MayStore, IsAdmitted}
-use Rattle.gix.specs.CommitEdits.{commit_text, commit_id}
+use Rattle.gix.specs.NewCommit.{commit_text, commit_id}
 use Rattle.gix.specs.Causes.{SpellsNone, IsFirstGap, CommitEditsCauses}
 
 -- Why a stage refuses, which reads alone.
@@ -155,40 +150,9 @@ abbrev pub IdentityCauses : CommitRequest → CommitEditsError → Type 0
 IdentityCauses r (WriteObject field) = are_writable r.author r.committer field ≡ false
 IdentityCauses r refusal = ⊥
 
--- why a name is refused that is absent, though a parent is given
-abbrev pub NameCauses : CommitRequest → List ℕ → CommitEditsError → Type 0
-NameCauses r end (MustExist name) = (name ≡ end) × (r.reference ≡ codes "HEAD")
-NameCauses r end NoMemory = Unit {0}
-NameCauses r end refusal = ⊥
-
--- why the end of a chain may not be moved
-abbrev pub EndCauses : CommitRequest → List ℕ → Option Target → CommitEditsError → Type 0
-EndCauses r end found (MustExist name) = (name ≡ end) × (r.reference ≡ codes "HEAD") × (r.parents ≢ []) × (found ≡ None)
-EndCauses r end found (MustNotExist name actual) = (name ≡ end) × (r.parents ≡ []) × (found ≡ Some actual)
-EndCauses r end found (ReferenceOutOfDate name expected actual) = (name ≡ end)
-    × OfFirst r.parents (λ parent. expected ≡ target.Object parent) × (actual ≢ expected) × (found ≡ Some actual)
-EndCauses r end found NoMemory = Unit {0}
-EndCauses r end found refusal = ⊥
-
--- why an absent end can't be made
-abbrev pub FreeCauses : StoreState → List ℕ → Option Target → CommitEditsError → Type 0
-FreeCauses state end found (NameConflict name other) = (name ≡ end) × (found ≡ None) × Conflict end other
-    × IfSome state.references (λ refs. IsSome (get refs.targets other))
-FreeCauses state end found (Store fault) = IsUnreadable state what.Listing fault
-FreeCauses state end found NoMemory = Unit {0}
-FreeCauses state end found refusal = ⊥
-
--- a chain that may be moved
-pub record IsMovable (r : CommitRequest) (state : StoreState) (chain : Chain) : Type 0 where
-  pub end : List ℕ
-  pub may : MayMove r state.references (record { names = chain.names; end = end; found = chain.target })
-  pub kind : IfSome chain.target (IsTargetOfKind state.hash)
-
 -- What is to be written: the objects of a request that may be made, and the changes of its references.
 pub record IsPlan (settings : Settings) (r : CommitRequest) (state : StoreState) (plan : Plan) : Type 0 where
-  pub way : Way
-  pub admitted : IsAdmitted settings r (view_of state) plan.objects.trees way
+  pub admitted : IsAdmitted settings r (view_of state) plan.objects.trees
   pub objects : AreObjects state.hash r plan.objects
-  pub moves : Moves settings state.hash r state.references way plan.objects.id plan.changes.items
-  pub names : HaveDistinctNames plan.changes.items
-  pub kinds : AreChangesOfKind state.hash plan.changes.items
+  pub ready : Prepares (commit_terms settings r) state.references (edits_of r plan.objects.id) plan.prepared
+  pub kinds : AreChangesOfKind state.hash plan.prepared.changes

@@ -6,7 +6,8 @@ ghost use Rattle.gix.specs.CommitEdits.{Commits, Leaves};
 ghost use Rattle.gix.specs.Causes.{CommitEditsCauses};
 ghost use Rattle.gix.specs.MadeCommit.{IsCommitOver};
 
-use crate::plan::plan_commit;
+use crate::error::of_reference;
+use crate::plan::{Plan, plan_commit};
 use crate::request::Request;
 use crate::write::write_new;
 use crate::{CommitEditsError, Repository, Settings, laws};
@@ -119,9 +120,13 @@ fn commit_request<S: Store>(
 {
     let plan = plan_commit(alloc, store, settings, request)?;
     write_new(alloc, store, request, &plan.objects)?;
-    store.apply(alloc, &plan.changes)?;
-    Ok(MadeCommit {
-        id: plan.objects.id,
-        tree: plan.objects.trees.root(),
-    })
+    let Plan { objects, prepared } = plan;
+    let made = MadeCommit {
+        id: objects.id,
+        tree: objects.trees.root(),
+    };
+    match prepared.commit(alloc, store) {
+        Ok(_) => Ok(made),
+        Err(refusal) => Err(of_reference(refusal)),
+    }
 }

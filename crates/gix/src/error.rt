@@ -1,12 +1,12 @@
 //! Why a commit of edits is refused.
 
 ghost use Rattle.std.specs.Prelude.{◌≡◌};
-ghost use Rattle.gix.specs.Lifting.{lifted, HasPlace};
+ghost use Rattle.gix.specs.Lifting.{lifted, of_reference, HasPlace, IsOfOne};
 
 use gx_edit::EditError;
 use gx_hash::{Bytes, NoMemory, ObjectId};
 use gx_object::{EntryKind, Field, Kind};
-use gx_refs::ChainError;
+use gx_refs::RefError;
 use gx_rules::{ComponentError, FullName};
 use gx_store::{StoreError, Target, What};
 use std::alloc::{AllocError, AllocFailed};
@@ -133,23 +133,6 @@ impl From<StoreError> for CommitEditsError {
     }
 }
 
-impl From<ChainError> for CommitEditsError {
-    ghost use Rattle.gix.specs.Lifting.{of_chain};
-
-    ghost from_gives = { λ refusal e. e ≡ of_chain refusal };
-
-    fn from(refusal: ChainError) -> CommitEditsError {
-        match refusal {
-            ChainError::Cycle { name } => CommitEditsError::Cycle { name },
-            ChainError::DepthLimitExceeded { name } => CommitEditsError::DepthLimitExceeded {
-                name,
-            },
-            ChainError::Store { what } => CommitEditsError::Store { what },
-            ChainError::NoMemory => CommitEditsError::NoMemory,
-        }
-    }
-}
-
 /// A refusal of `gx_edit`, which tells of no empty component, since that one wants its path, and of no directory that
 /// was to be removed as a leaf.
 pub(crate) fn lifted(refusal: EditError) -> CommitEditsError
@@ -180,5 +163,37 @@ pub(crate) fn lifted(refusal: EditError) -> CommitEditsError
         EditError::WriteObject { field } => CommitEditsError::WriteObject { field },
         EditError::Store { what } => CommitEditsError::Store { what },
         EditError::NoMemory => CommitEditsError::NoMemory,
+    }
+}
+
+/// A refusal of the edit of a commit's reference, which meets no other edit, and whose lines the committer signs.
+pub(crate) fn of_reference(refusal: RefError) -> CommitEditsError
+    requires { IsOfOne refusal }
+    ensures { result ≡ of_reference refusal }
+{
+    match refusal {
+        RefError::DuplicateEdit { name: _ }
+        | RefError::MissingCommitter
+        | RefError::Unwritable { field: _ }
+        | RefError::NameValidation(_) => unreachable!(),
+        RefError::Cycle { name } => CommitEditsError::Cycle { name },
+        RefError::DepthLimitExceeded { name } => CommitEditsError::DepthLimitExceeded { name },
+        RefError::MustExist { name } => CommitEditsError::MustExist { name },
+        RefError::MustNotExist { name, actual } => CommitEditsError::MustNotExist { name, actual },
+        RefError::ReferenceOutOfDate {
+            name,
+            expected,
+            actual,
+        } => CommitEditsError::ReferenceOutOfDate {
+            name,
+            expected,
+            actual,
+        },
+        RefError::NameConflict { name, with } => CommitEditsError::NameConflict {
+            name,
+            other: with,
+        },
+        RefError::Store { what } => CommitEditsError::Store { what },
+        RefError::NoMemory => CommitEditsError::NoMemory,
     }
 }

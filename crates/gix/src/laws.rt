@@ -17,7 +17,6 @@ ghost use Rattle.gix.specs.EditReferences.{edit_references_meaning, terms_in};
 ghost use Rattle.gix.specs.View.{State, whole, view_of};
 ghost use Rattle.gix.specs.Base.{IsMapOf};
 ghost use Rattle.gix.specs.Trees.{Makes};
-ghost use Rattle.gix.specs.Reference.{Way};
 ghost use Rattle.gix.specs.Admission.{IsAdmitted, IsValidCommit};
 ghost use Rattle.gix.specs.Causes.{Cause, CommitEditsCauses, IsFaultless};
 ghost use Rattle.gix.specs.Asking.{asks};
@@ -26,6 +25,7 @@ ghost use Rattle.gix.specs.Logs.{log_query};
 ghost use Rattle.gix.specs.Machine.{Accepts, commit_edits_meaning};
 ghost use Rattle.gix.specs.Meaning.{IsLawful, Admits};
 ghost use Rattle.gix.specs.References.{is_relative_path, references_query};
+ghost use Rattle.gix.specs.Space.{clear_namespace_meaning, set_namespace_meaning};
 ghost use Rattle.gix.specs.LawsBelow.{LawsBelow};
 ghost use Rattle.gix.specs.History.{Call, CallStep, History, IsEmpty, IsLine, IsWholeId, line_map};
 
@@ -54,14 +54,14 @@ fn laws_below()
     gx_store::laws::writing_adds();
     gx_store::laws::added_is_found();
     gx_store::laws::found_stays();
-    gx_refs::laws::each_meets_one_fate();
+    gx_refs::laws::edits_that_may_be_made_are_not_refused();
 }
 
 /// A request that may be made has no cause to be refused.
 pub fn admitted_has_no_cause()
-    ensures { (settings : Settings) (r : CommitRequest) (state : State) (output : Output) (way : Way)
+    ensures { (settings : Settings) (r : CommitRequest) (state : State) (output : Output)
         (e : CommitEditsError)
-        → IsAdmitted settings r (whole state) output way → Cause settings r (whole state) e → ⊥ }
+        → IsAdmitted settings r (whole state) output → Cause settings r (whole state) e → ⊥ }
 {
     laws_below();
 }
@@ -69,8 +69,8 @@ pub fn admitted_has_no_cause()
 /// A valid request may be made.
 pub fn valid_is_admitted()
     ensures { (settings : Settings) (r : CommitRequest) (state : State) (output : Output)
-        → IsValidCommit settings r state → Makes r (whole state) output → (way : Way)
-        × IsAdmitted settings r (whole state) output way }
+        → IsValidCommit settings r state → Makes r (whole state) output
+        → IsAdmitted settings r (whole state) output }
 {
     laws_below();
 }
@@ -174,4 +174,10 @@ pub fn edits_that_may_be_made_are_not_refused()
 /// The prefix of all references but such as `HEAD` is a relative path.
 pub fn refs_is_a_relative_path()
     ensures { is_relative_path (codes "refs/") ≡ true }
+{}
+
+/// To set or clear the namespace is lawful.
+pub fn namespace_is_lawful()
+    ensures set { (name : List ℕ) → IsLawful (set_namespace_meaning name) }
+    ensures cleared { IsLawful clear_namespace_meaning }
 {}

@@ -16,6 +16,7 @@ pub mod laws;
 mod log;
 mod logs;
 mod moving;
+mod namespace;
 pub mod object;
 mod plan;
 pub mod reference;

@@ -1,109 +1,88 @@
 //! The last stage: the reference that is to name the commit.
 
-ghost use Rattle.std.specs.Prelude.{◌≡◌, ◌≢◌, ◌++◌, ◌∷◌, [], ℕ, List, codes, None, OnOk, IfOk, IfErr, IfSome};
-ghost use Rattle.gx_store.specs.Conflict.{IsFree};
-ghost use Rattle.gix.specs.declared.settings.Settings.{Settings};
+ghost use Rattle.std.specs.Prelude.{◌≡◌, IfOk, IfErr};
+ghost use Rattle.gx_hash.specs.HashKind.{IsOfKind};
+ghost use Rattle.gx_store.specs.Kinds.{AreChangesOfKind};
+ghost use Rattle.gx_refs.specs.EditCauses.{EditCauses};
+ghost use Rattle.gx_refs.specs.Prepared.{Prepares};
 ghost use Rattle.gix.specs.CommitRequest.{asked};
-ghost use Rattle.gix.specs.View.{view_of};
-ghost use Rattle.gix.specs.Reference.{IsAllowed};
-ghost use Rattle.gix.specs.Causes.{IsStorable};
-ghost use Rattle.gix.specs.Stages.{StageCauses, IsMovable, NameCauses, EndCauses, FreeCauses};
+ghost use Rattle.gix.specs.Reference.{asked_of, commit_terms, edit_of, edits_of};
 
-use crate::CommitEditsError;
+use crate::Settings;
+use crate::log::commit_log_message;
 use crate::request::Request;
-use gx_refs::{Chain, resolve};
-use gx_rules::FullName;
+use crate::space::namespace_of;
+use gx_hash::{NoMemory, ObjectId};
+use gx_refs::{
+    Change, Edits, LogChange, Prepared, PreviousValue, RefEdit, RefError, RefLog, prepare,
+};
 use gx_store::{References, Target};
 use std::alloc::Global;
 
-/// The chain of the request's reference, where its end may be moved to the commit.
-pub(crate) fn movable_chain<S: References>(
+/// What the request's parents ask of the reference.
+fn expected(request: &Request<'_>) -> PreviousValue
+    ensures { result ≡ asked_of (asked request.now).reference (asked request.now).parents }
+{
+    let Some(parent) = request.parents.first() else {
+        return PreviousValue::MustNotExist;
+    };
+    let parent = Target::Object(*parent);
+    if request.reference.as_slice() == b"HEAD".as_slice() {
+        PreviousValue::MustExistAndMatch(parent)
+    } else {
+        PreviousValue::ExistingMustMatch(parent)
+    }
+}
+
+/// The edit that lets the end of the reference's chain name the commit.
+fn edit_of(alloc: Global, request: &Request<'_>, id: ObjectId) -> Result<RefEdit, NoMemory>
+    ensures { IfOk result (λ edit. edit ≡ edit_of (asked request.now) id) }
+{
+    let message = commit_log_message(alloc, request.parents, request.message)?;
+    let name = request.reference.try_clone()?;
+    let log = LogChange {
+        mode: RefLog::AndReference,
+        force_create_reflog: false,
+        message,
+    };
+    let change = Change::Update {
+        log,
+        expected: expected(request),
+        new: Target::Object(id),
+    };
+    Ok(RefEdit {
+        change,
+        name,
+        deref: true,
+    })
+}
+
+fn edits_of(alloc: Global, request: &Request<'_>, id: ObjectId) -> Result<Edits, NoMemory>
+    ensures { IfOk result (λ edits. edits ≡ edits_of (asked request.now) id) }
+{
+    let edit = edit_of(alloc, request, id)?;
+    let mut list = Vec::new(alloc);
+    list.push(edit)?;
+    Ok(Edits::from_vec(list))
+}
+
+/// Prepares the edit of the request's reference. This reads alone.
+pub(crate) fn prepare_move<S: References>(
     alloc: Global,
     store: &S,
+    settings: &Settings,
     request: &Request<'_>,
-) -> Result<Chain, CommitEditsError>
-    ensures ok { IfOk result (IsMovable (asked request.now) (S.state store.now)) }
-    ensures err { (settings : Settings) → IsStorable settings (asked request.now) (view_of (S.state store.now))
-        → IfErr result (StageCauses settings (asked request.now) (S.state store.now)) }
+    id: ObjectId,
+) -> Result<Prepared, RefError>
+    requires { IsOfKind (S.state store.now).hash id }
+    ensures ok { IfOk result (Prepares (commit_terms settings.now (asked request.now)) (S.state store.now).references
+        (edits_of (asked request.now) id)) }
+    ensures kinds { IfOk result (λ prepared. AreChangesOfKind (S.state store.now).hash prepared.changes) }
+    ensures causes { IfErr result (EditCauses (commit_terms settings.now (asked request.now)) (S.state store.now)
+        (edits_of (asked request.now) id)) }
 {
-    let chain = resolve(alloc, store, request.reference)?;
-    let end = end_of(chain.names.as_slice());
-    check_end(request, end, &chain.target)?;
-    check_free(alloc, store, end, &chain.target)?;
-    Ok(chain)
-}
-
-fn end_of(names: &[FullName]) -> &FullName
-    requires { names.now ≢ [] }
-    ensures { (before : List (List ℕ)) × (names.now ≡ before ++ result.now ∷ []) }
-{
-    match names {
-        [.., end] => end,
-        [] => unreachable!(),
-    }
-}
-
-/// Refuses a reference that does not name what the request's parents ask for.
-fn check_end(
-    request: &Request<'_>,
-    end: &FullName,
-    found: &Option<Target>,
-) -> Result<(), CommitEditsError>
-    ensures ok { OnOk result (IsAllowed (asked request.now).reference (asked request.now).parents found.now) }
-    ensures err { IfErr result (EndCauses (asked request.now) end.now found.now) }
-{
-    match (request.parents.first(), found) {
-        (None, None) => Ok(()),
-        (None, Some(actual)) => Err(CommitEditsError::MustNotExist {
-            name: end.try_clone()?,
-            actual: actual.try_clone()?,
-        }),
-        (Some(_), None) => check_name(request, end),
-        (Some(parent), Some(actual)) => {
-            let expected = Target::Object(*parent);
-            if *actual == expected {
-                return Ok(());
-            }
-            Err(CommitEditsError::ReferenceOutOfDate {
-                name: end.try_clone()?,
-                expected,
-                actual: actual.try_clone()?,
-            })
-        }
-    }
-}
-
-/// Refuses `HEAD`, whose branch is absent.
-fn check_name(request: &Request<'_>, end: &FullName) -> Result<(), CommitEditsError>
-    ensures ok { OnOk result ((asked request.now).reference ≢ codes "HEAD") }
-    ensures err { IfErr result (NameCauses (asked request.now) end.now) }
-{
-    if request.reference.as_slice() != b"HEAD".as_slice() {
-        return Ok(());
-    }
-    let name = end.try_clone()?;
-    Err(CommitEditsError::MustExist { name })
-}
-
-/// Refuses an absent end that can't stand beside a stored name.
-fn check_free<S: References>(
-    alloc: Global,
-    store: &S,
-    end: &FullName,
-    found: &Option<Target>,
-) -> Result<(), CommitEditsError>
-    ensures ok { OnOk result (found.now ≡ None
-        → IfSome (S.state store.now).references (λ refs. IsFree refs.targets end.now)) }
-    ensures err { IfErr result (FreeCauses (S.state store.now) end.now found.now) }
-{
-    if found.is_some() {
-        return Ok(());
-    }
-    match store.find_conflict(alloc, end)? {
-        None => Ok(()),
-        Some(other) => Err(CommitEditsError::NameConflict {
-            name: end.try_clone()?,
-            other,
-        }),
-    }
+    let edits = edits_of(alloc, request, id)?;
+    let space = namespace_of(settings);
+    let committer = Some(request.committer);
+    prepare(alloc, store, space, edits, settings.log_mode, committer)
 }

@@ -11,16 +11,15 @@ ghost use Rattle.gix.specs.Stages.{StageCauses, IsEditedBy, AreTreesOf, AreStora
 
 use crate::base::base_of;
 use crate::edits::{Edited, make_edits};
-use crate::error::lifted;
-use crate::log::commit_log_message;
-use crate::moving::movable_chain;
+use crate::error::{lifted, of_reference};
+use crate::moving::prepare_move;
 use crate::request::Request;
 use crate::{CommitEditsError, Settings};
 use gx_edit::Output;
 use gx_hash::{Bytes, NoMemory, ObjectId, ObjectIds, object_id};
 use gx_object::{Kind, push_commit, unwritable_identity};
-use gx_refs::move_end;
-use gx_store::{Objects, RefChange, Store};
+use gx_refs::Prepared;
+use gx_store::{Objects, Store};
 use std::alloc::Global;
 
 /// The objects that a commit brings.
@@ -38,7 +37,8 @@ pub(crate) struct NewObjects {
 #[derive(Drop)]
 pub(crate) struct Plan {
     pub(crate) objects: NewObjects,
-    pub(crate) changes: Vec<RefChange>,
+    /// The edit of the reference.
+    pub(crate) prepared: Prepared,
 }
 
 /// Goes through all stages. This reads alone.
@@ -53,18 +53,12 @@ pub(crate) fn plan_commit<S: Store>(
     ensures err { IfErr result (StageCauses settings.now (asked request.now) (S.state store.now)) }
 {
     let objects = plan_objects(alloc, store, settings, request)?;
-    let chain = movable_chain(alloc, store, request)?;
-    let message = commit_log_message(alloc, request.parents, request.message)?;
-    let changes = move_end(
-        alloc,
-        store,
-        settings.log_mode,
-        &chain,
-        objects.id,
-        request.committer,
-        message.as_slice(),
-    )?;
-    Ok(Plan { objects, changes })
+    gx_refs::laws::one_edit_meets_none();
+    gx_refs::laws::a_signer_signs();
+    match prepare_move(alloc, store, settings, request, objects.id) {
+        Ok(prepared) => Ok(Plan { objects, prepared }),
+        Err(refusal) => Err(of_reference(refusal)),
+    }
 }
 
 fn plan_objects<S: Objects>(

@@ -1,17 +1,19 @@
 //! How a repository is used.
 
-ghost use Rattle.std.specs.Prelude.{◌≡◌, false, true};
+ghost use Rattle.std.specs.Prelude.{◌≡◌, false, true, None};
 
 use gx_refs::WriteReflog;
-use gx_rules::Protect;
+use gx_rules::{Namespace, Protect};
 
 /// What is chosen for a repository.
-#[derive(Debug, PartialEq, Eq, Drop)]
+#[derive(Debug, Drop)]
 pub struct Settings {
     /// Which names a tree may not have.
     pub protect: Protect,
     /// Which logs tell of a change of a reference.
     pub log_mode: WriteReflog,
+    /// The namespace that names of references are in.
+    pub namespace: Option<Namespace>,
 }
 
 impl Settings {
@@ -19,10 +21,12 @@ impl Settings {
     pub fn new() -> Settings
         ensures protect { result.protect ≡ record { hfs = false; ntfs = true; windows = false } }
         ensures log_mode { result.log_mode ≡ WriteReflog.Normal }
+        ensures namespace { result.namespace ≡ None }
     {
         Settings {
             protect: Protect::default(),
             log_mode: WriteReflog::Normal,
+            namespace: None,
         }
     }
 }

@@ -12,12 +12,11 @@ use gx_rules::{FullName, NameError, Namespace};
 use gx_store::Target;
 use std::alloc::Global;
 
-/// The namespace in which names are given. No settings have one yet.
+/// The namespace in which names are given.
 pub(crate) fn namespace_of(settings: &Settings) -> Option<&Namespace>
     ensures { prefix_of (option_copied result) ≡ space_of settings.now }
 {
-    let _ = settings;
-    None
+    settings.namespace.as_ref()
 }
 
 /// A given name as it is stored.

@@ -11,8 +11,8 @@ use Rattle.gx_walk.specs.Traversal.Order.{BreadthFirst, DepthFirst}
 use Rattle.gx_walk.specs.Visits.{TreeVisit, visit_of}
 
 -- The visits at and below some entries of one tree. After an entry that is entered come the visits below it, and then
--- those of the entries after it. The tree and those that contain it have the ids above, and its path, followed by a
--- slash, is the directory. (git-ls-tree(1), "-r")
+-- those of the entries after it. The tree and those that contain it have the ids above. The directory is its path,
+-- followed by a slash, and nothing for the root. (git-ls-tree(1), "-r")
 pub data VisitsNested (hash : HashKind) (told : Option Content)
     : List ObjectId → List ℕ → List Entry → List TreeVisit → Type 0 where
   none : (above : List ObjectId) (directory : List ℕ) → VisitsNested hash told above directory [] []
@@ -36,7 +36,7 @@ DepthFirstIsNested = (hash : HashKind) (told : Option Content) (root : ObjectId)
     → VisitsNested hash told (root ∷ []) [] entries visits
 
 -- where an entry lies: the ids of the trees that contain it, from the root down, and the path of the innermost,
--- followed by a slash
+-- followed by a slash, and nothing for the root
 pub record Place : Type 0 where
   pub above : List ObjectId
   pub directory : List ℕ

@@ -89,7 +89,7 @@ pub fn edit_by(
 
 // ---- what fields say
 
-fn partial_in(alloc: Global, field: &[u8]) -> Result<PartialName, ProbeError> {
+pub fn partial_in(alloc: Global, field: &[u8]) -> Result<PartialName, ProbeError> {
     match PartialName::new(alloc, field) {
         Ok(name) => Ok(name),
         Err(_) => Err(ProbeError::BadLine),

@@ -7,8 +7,10 @@
 //!   call.
 //! - `windows` forbids names that Windows forbids; `logs MODE` says which logs are written, as `normal`, `always` or
 //!   `disable`.
+//! - `namespace NAME` goes into a namespace, and `namespace` into none; both answer the prefix from before, or `none`.
 //! - All other steps are those of `store` rows.
 
+use crate::reference_edits::partial_in;
 use crate::settings::choose;
 use crate::store::{answer_step, push_answer};
 use crate::values::hash_in;
@@ -65,11 +67,36 @@ fn stepped(
         push_answer(answers, &answer)?;
         return Ok(repo);
     }
+    if let Some(answer) = moved(alloc, &mut repo, step)? {
+        push_answer(answers, &answer)?;
+        return Ok(repo);
+    }
     let mut settings = repo.set_settings(Settings::new());
     let mut store = repo.into_store();
     let answer = chosen_or_made(alloc, &mut settings, &mut store, step)?;
     push_answer(answers, &answer)?;
     Ok(Repository::new(store, settings))
+}
+
+/// The answer of a step that goes into a namespace, or into none.
+fn moved(
+    alloc: Global,
+    repo: &mut Repository<Memory>,
+    step: &[Vec<u8>],
+) -> Result<Option<Vec<u8>>, ProbeError> {
+    let before = match step {
+        [call] if call.as_slice() == b"namespace".as_slice() => repo.clear_namespace(),
+        [call, name] if call.as_slice() == b"namespace".as_slice() => {
+            let name = partial_in(alloc, name)?;
+            repo.set_namespace(alloc, &name)?
+        }
+        _ => return Ok(None),
+    };
+    let answer = match before {
+        Some(space) => Vec::from_slice(alloc, space.as_slice())?,
+        None => word(alloc, "none")?,
+    };
+    Ok(Some(answer))
 }
 
 /// The answer of a step that chooses a setting, or of a call on the store.

@@ -141,12 +141,19 @@ fn strict() -> Settings {
     settings
 }
 
+/// Whether both have the same protections and logs, and no namespace.
+fn are_alike(one: &Settings, other: &Settings) -> bool {
+    let in_none = one.namespace.is_none() && other.namespace.is_none();
+    in_none && one.protect == other.protect && one.log_mode == other.log_mode
+}
+
 /// Each setter answers what was there.
 fn are_settings_changed(alloc: Global) -> Result<bool, Fail> {
     let mut repo = empty_repository(alloc)?;
     let before = repo.set_settings(strict());
-    let is_set = *repo.settings() == strict();
-    Ok(before == Settings::new() && is_set && repo.object_hash() == HashKind::Sha1)
+    let was_new = are_alike(&before, &Settings::new());
+    let is_set = are_alike(repo.settings(), &strict());
+    Ok(was_new && is_set && repo.object_hash() == HashKind::Sha1)
 }
 
 fn answers(alloc: Global) -> Result<bool, Fail> {

@@ -28,8 +28,8 @@ pub trait Visit {
     /// How often it has answered `Cancel`.
     ghost cancels: { Self → ℕ };
 
-    /// Visits an entry that is a tree. The path is whole, names are separated by slashes, and the last one is the
-    /// entry's own.
+    /// Visits an entry that is a tree. The path is whole: its names are separated by slashes, and it ends with the
+    /// entry's name.
     fn visit_tree(&mut self, path: &[u8], entry: &EntryRef<'_>) -> Result<Action, NoMemory>
         requires { IsShown path.now (entry_of entry.now) true }
         ensures ok { IfOk result (λ answer. Answered (visit_of path.now (entry_of entry.now) answer)

@@ -1,4 +1,4 @@
-use Rattle.std.proofs.Common.{◌∙◌, drop, rules}
+use Rattle.std.proofs.Common.{◌∙◌, rules}
 use Rattle.std.proofs.lemmas.Result.{err_from_is_err_and}
 use Rattle.gix.specs.CommitRequest.{CommitRequest, asked}
 use Rattle.gix.proofs.BaseLemmas.{first_is, parent_refused, root_refused, root_found, no_parent, has_place}

@@ -1,25 +1,24 @@
-use Rattle.std.proofs.Common.{◌∙◌}
-use Rattle.std.proofs.lemmas.Result.{err_from_is_err_and}
+use Rattle.std.proofs.Common.{sym, subst}
 use Rattle.gix.specs.CommitRequest.{asked}
-use Rattle.gix.proofs.PlanLemmas.{id_of_kind, move_refused, planned}
+use Rattle.gix.specs.Stages.{StageCauses}
+use Rattle.gix.proofs.PlanLemmas.{id_of_kind, move_refused, planned, refused_as_one}
 use Rattle.gix.proofs.plan.plan_commit.Goals as goal
 
-pub returns-in_err-chain-clause-err : goal.returns-in_err-chain-clause-err
-returns-in_err-chain-clause-err g c =
-    let p = err_from_is_err_and c.from_residual-in_err-chain.result c.from_residual-in_err-chain.ensures.1 in
-    rw (p.1, p.2) (c.in_err-chain.ensures.err c.args.settings.now (c.in_ok-objects.objects.trees, c.in_ok-objects.ensures.ok.may))
+pub prepare_move-requires : goal.prepare_move-requires
+prepare_move-requires g c = id_of_kind _ (asked c.args.request.now) c.in_ok-objects.objects c.in_ok-objects.ensures.ok.are
 
-pub move_end-requires-clause-id : goal.move_end-requires-clause-id
-move_end-requires-clause-id g c = id_of_kind _ (asked c.args.request.now) c.in_ok-objects.objects c.in_ok-objects.ensures.ok.are
-
-pub returns-in_err-changes-clause-err : goal.returns-in_err-changes-clause-err
-returns-in_err-changes-clause-err g c =
+pub of_reference-requires : goal.of_reference-requires
+of_reference-requires g c =
     let s = g.S.Meanings.state c.args.store.now in
-    let p = err_from_is_err_and c.from_residual-in_err-changes.result c.from_residual-in_err-changes.ensures.1 in
-    rw (p.1, p.2) (move_refused c.args.settings.now (asked c.args.request.now) s (c.in_ok-objects.objects.trees, c.in_ok-objects.ensures.ok.may) c.in_ok-chain.chain c.in_ok-chain.ensures.ok _ c.in_err-changes.ensures.fault)
+    refused_as_one c.one_edit_meets_none.ensures c.a_signer_signs.ensures c.args.settings.now (asked c.args.request.now) s c.in_ok-objects.objects c.in_ok-objects.ensures.ok c.in-Err.refusal c.in-Err.ensures.causes
 
-pub returns-clause-ok : goal.returns-clause-ok
-returns-clause-ok g c =
+pub returns-in-Ok-clause-ok : goal.returns-in-Ok-clause-ok
+returns-in-Ok-clause-ok g c =
     let s = g.S.Meanings.state c.args.store.now in
-    planned c.args.settings.now (asked c.args.request.now) s (record { objects = c.in_ok-objects.objects; changes = c.in_ok-changes.changes }) c.in_ok-objects.ensures.ok c.in_ok-chain.chain c.in_ok-chain.ensures.ok
-    c.as_slice.result.now (c.as_slice.ensures ∙ c.in_ok-message.ensures) c.in_ok-changes.ensures.along c.in_ok-changes.ensures.moved c.in_ok-changes.ensures.names c.in_ok-changes.ensures.kinds
+    planned c.args.settings.now (asked c.args.request.now) s (record { objects = c.in_ok-objects.objects; prepared = c.in-Ok.prepared }) c.in_ok-objects.ensures.ok c.in-Ok.ensures.ok c.in-Ok.ensures.kinds
+
+pub returns-in-Err-clause-err : goal.returns-in-Err-clause-err
+returns-in-Err-clause-err g c =
+    let s = g.S.Meanings.state c.args.store.now in
+    subst (StageCauses c.args.settings.now (asked c.args.request.now) s) (sym c.of_reference.ensures)
+    (move_refused c.one_edit_meets_none.ensures c.a_signer_signs.ensures c.args.settings.now (asked c.args.request.now) s c.in_ok-objects.objects c.in_ok-objects.ensures.ok c.in-Err.refusal c.in-Err.ensures.causes)

@@ -1,11 +1,10 @@
-use Rattle.std.proofs.Common.{◌≡◌, ◌∙◌, ap, refl, subst, Option, IfOk, IfSome}
+use Rattle.std.proofs.Common.{◌≡◌, ◌∙◌, ap, refl, subst, IfOk, IfSome}
 use Rattle.std.specs.FinMap.{get}
-use Rattle.gx_store.specs.Kinds.{AreLinesOfKind}
 use Rattle.gx_store.specs.State.{IfFault, IsUnreadable}
 use Rattle.gx_store.specs.declared.error.What.TheVariants as what
 use Rattle.gx_refs.specs.Shown.{stored_name}
 use Rattle.gix.specs.Logs.{log_query}
-use Rattle.gix.specs.Repository.{held_by, settings_of, store_of}
+use Rattle.gix.specs.Repository.{held_by, store_of}
 use Rattle.gix.specs.Space.{space_of}
 use Rattle.gix.proofs.AskingLemmas.{asking_means, both_ok, cause_of_part}
 use Rattle.gix.proofs.repository.Repository.log.Goals as goal

@@ -1,10 +1,9 @@
-use Rattle.std.proofs.Common.{◌≡◌, sym, subst, IfSome, option_copied}
+use Rattle.std.proofs.Common.{sym, subst, option_copied}
 use Rattle.std.specs.List.{AllByRecursion}
 use Rattle.gx_store.specs.Kinds.{IsTargetOfKind}
 use Rattle.gx_refs.specs.Shown.{prefix_of}
 use Rattle.gx_refs.specs.declared.reference.Reference.{Reference}
 use Rattle.gix.specs.Found.{AreFound}
-use Rattle.gix.specs.References.{AreReferences}
 use Rattle.gix.specs.Repository.{store_of}
 use Rattle.gix.proofs.FoundLemmas.{kinds_of, listed}
 use Rattle.gix.proofs.reference.iter.reading.read_references.Goals as goal
