@@ -1,5 +1,5 @@
 #!/usr/bin/env bash
-# Each example script is answered as the file beside it says, and so is the command of the README.
+# Each example is answered as its file says, and so is the command of the README.
 set -uo pipefail
 . "$(dirname -- "$(readlink -f -- "${BASH_SOURCE[0]}")")/lib.sh"
 
@@ -21,6 +21,12 @@ for script in "$top"/examples/*.script; do
     name=$(basename -- "$script" .script)
     runs "examples/$name" "$(status_of "$script")" "${script%.script}.expected" apply "$script"
 done
+
+generated() {
+    "$top/gx" --memory generate 2
+}
+
+runs "examples/generate" 0 "$top/examples/generate.expected" generated
 
 # The command as the README has it, run at the top of the repository.
 readme_command() {

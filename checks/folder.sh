@@ -14,8 +14,26 @@ for script in "$top"/examples/*.script; do
     runs "$name in a folder" "$status" "$top/examples/$name.expected" in_folder
 done
 
+# A second run over the folder tells what the first one left, as one run over memory tells it.
+commit=$top/examples/first-commit.script
+questions() {
+    printf 'refs\nlog refs/heads/main\n'
+}
+
+told_at_once() {
+    { cat -- "$commit" && questions; } | "$top/gx" --memory apply
+}
+
+told_by_two_runs() {
+    "$top/gx" "$scratch/twice" apply <"$commit" && questions | "$top/gx" "$scratch/twice" apply
+}
+
+told_at_once >"$scratch/at-once"
+runs "a folder in a second run" 0 "$scratch/at-once" told_by_two_runs
+
 needs_git "no repository is taken through a folder"
 needs python3 "no repository is taken through a folder"
 counts "repositories through folders" python3 "$top/checks/folder.py" "$top" "$scratch"
+counts "folders that fail" python3 "$top/checks/folder_faults.py" "$top" "$scratch"
 
 report

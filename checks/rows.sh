@@ -7,8 +7,8 @@ set -uo pipefail
 # answer FILE: prints the rows of the file, with what the program of its subject answers.
 answer() {
     case ${1##*/} in
-    chains.rows | directories.rows | editors.rows | edits.rows | logs.rows | path_maps.rows | references.rows | runs.rows | \
-        store.rows | tree_editors.rows)
+    chains.rows | directories.rows | editors.rows | edits.rows | logs.rows | objects.rows | path_maps.rows | \
+        references.rows | runs.rows | store.rows | tree_editors.rows | writes.rows)
         store_probe <"$1"
         ;;
     bases.rows | describe.rows | maps.rows | traversals.rows | walks.rows)

@@ -7,6 +7,8 @@ mod broken;
 #[cfg(test)]
 mod failing;
 #[cfg(test)]
+mod index;
+#[cfg(test)]
 mod opened;
 #[cfg(test)]
 mod samples;

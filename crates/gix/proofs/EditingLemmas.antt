@@ -5,7 +5,7 @@ use Rattle.gx_object.specs.declared.signature.Signature.{Signature}
 use Rattle.gx_store.specs.Change.{refs_after}
 use Rattle.gx_store.specs.Content.{Content}
 use Rattle.gx_store.specs.Faults.{Rose}
-use Rattle.gx_store.specs.State.{RefState, StoreState, HasCause, IsUnreadable}
+use Rattle.gx_store.specs.State.{RefState, StoreState, IsUnreadable}
 use Rattle.gx_store.specs.declared.error.StoreError.TheVariants.{Fault}
 use Rattle.gx_store.specs.declared.error.What.{What}
 use Rattle.gx_store.specs.declared.error.What.TheVariants as what
@@ -16,7 +16,7 @@ use Rattle.gx_refs.specs.declared.edit.RefEdit.{RefEdit}
 use Rattle.gx_refs.specs.declared.error.RefError.{RefError}
 use Rattle.gx_refs.specs.declared.error.RefError.TheVariants.{Store, NoMemory}
 use Rattle.gx_refs.specs.declared.terms.Terms.{Terms}
-use Rattle.gix.specs.EditReferences.{AcceptsEdits, LeavesEdits, MakeCauses, MakesEdits, edit_part, edit_references_meaning, terms_in}
+use Rattle.gix.specs.EditReferences.{AcceptsEdits, EditFaultCauses, LeavesEdits, MakeCauses, MakesEdits, edit_part, edit_references_meaning, terms_in}
 use Rattle.gix.specs.Held.{Held, BothTold, WhereTold, state_of, state_told}
 use Rattle.gix.specs.Meaning.{Means, Stays, IsLawful}
 use Rattle.gix.proofs.AskingLemmas.{told_still}
@@ -58,9 +58,15 @@ left_same terms edits old new e none left = left
 made_stays : (terms : Terms) (edits answer : List RefEdit) (old new : StoreState) → MakesEdits terms edits old answer new → Stays old new
 made_stays terms edits answer old new made = record { kind = ap (λ (s : StoreState). s.hash) made.becomes.same; parts = ap (λ (s : StoreState). s.unreadable) made.becomes.same; later = made.becomes.later }
 
-fault_rose : (terms : Terms) (edits : List RefEdit) (old new : StoreState) (fault : What) → ((part : What) → old.unreadable part ≡ false) → IsEditFault terms old edits fault ⊎ HasCause old new fault → Rose old.faults new.faults
-fault_rose terms edits old new fault readable (inl read) = absurd (true≢false (sym (fault_unreadable terms old edits fault read) ∙ readable fault))
-fault_rose terms edits old new fault readable (inr change) = change.1
+no_read : (terms : Terms) (edits : List RefEdit) (old : StoreState) (fault : What) → ((part : What) → old.unreadable part ≡ false) → IsEditFault terms old edits fault → ⊥
+no_read terms edits old fault readable read = true≢false (sym (fault_unreadable terms old edits fault read) ∙ readable fault)
+
+fault_rose : (terms : Terms) (edits : List RefEdit) (old new : StoreState) (fault : What) → ((part : What) → old.unreadable part ≡ false) → EditFaultCauses terms edits old new fault → Rose old.faults new.faults
+fault_rose terms edits old new what.Write readable cause = cause.1
+fault_rose terms edits old new what.Listing readable cause = absurd (no_read terms edits old what.Listing readable cause)
+fault_rose terms edits old new what.Index readable cause = absurd (no_read terms edits old what.Index readable cause)
+fault_rose terms edits old new (what.Name name) readable cause = absurd (no_read terms edits old (what.Name name) readable cause)
+fault_rose terms edits old new (what.Object id) readable cause = absurd (no_read terms edits old (what.Object id) readable cause)
 
 rises : (terms : Terms) (edits : List RefEdit) (old new : StoreState) (e : RefError) (fault : What) → ((part : What) → old.unreadable part ≡ false) → edit_part e ≡ Some (Fault fault) → MakeCauses terms edits old new e → Rose old.faults new.faults
 rises terms edits old new (Store other) fault readable is causes = fault_rose terms edits old new other readable causes

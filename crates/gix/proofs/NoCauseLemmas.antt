@@ -195,7 +195,7 @@ module _ (laws : LawsBelow) (settings : Settings) (r : CommitRequest) (state : S
   one_commit other m = ap (λ root. object_id state.hash (kind_name kind.Commit) (plain_commit_bytes root r.parents r.author r.committer r.message)) (same_root laws.once state.hash a.objects.trees.makes.end other output (as_here other m) a.objects.trees.makes.written)
 
   pub not_refused : (e : RefError) → IsMoveRefused settings r (whole state) e → ⊥
-  not_refused e c = laws.made (commit_terms settings r) state.references (edits_of r (commit_id state.hash r output)) e a.reference
+  not_refused e c = laws.not_refused (commit_terms settings r) state.references (edits_of r (commit_id state.hash r output)) e a.reference
       (subst (λ id. EditRefusal (commit_terms settings r) (Some state.references) (edits_of r id) e) (one_commit c.output c.may.trees.makes) c.refused)
 
   pub no_cause : (e : CommitEditsError) → Cause settings r (whole state) e → ⊥

@@ -1,10 +1,12 @@
 -- Edits of references, a list at a time.
-use Rattle.std.specs.Prelude.{◌≡◌, ◌⊎◌, List, Option, Some, None}
+use Rattle.std.specs.Prelude.{◌≡◌, List, Option, Some, None}
 use Rattle.gx_object.specs.declared.signature.Signature.{Signature}
 use Rattle.gx_store.specs.Change.{applied, AfterFault}
 use Rattle.gx_store.specs.State.{StoreState, Becomes, HasCause}
 use Rattle.gx_store.specs.declared.error.StoreError.{StoreError}
 use Rattle.gx_store.specs.declared.error.StoreError.TheVariants as failure
+use Rattle.gx_store.specs.declared.error.What.{What}
+use Rattle.gx_store.specs.declared.error.What.TheVariants as what
 use Rattle.gx_refs.specs.EditCauses.{EditRefusal, IsEditFault, AreMade}
 use Rattle.gx_refs.specs.Prepared.{Prepares, Ready}
 use Rattle.gx_refs.specs.declared.edit.RefEdit.{RefEdit}
@@ -41,17 +43,25 @@ pub record AreCutShort (terms : Terms) (edits : List RefEdit) (old new : StoreSt
   pub prepared : Prepares terms old.references edits ready
   pub after : AfterFault ready.changes old new
 
--- What an error leaves: a refusal all as it was; a fault the same, or each changed name old or new; and lack of memory
--- no change.
+-- What a fault leaves: one of writing each changed name old or new, and one of a read all as it was.
+abbrev pub LeavesEditFault : Terms → List RefEdit → StoreState → StoreState → What → Type 0
+LeavesEditFault terms edits old new what.Write = AreCutShort terms edits old new
+LeavesEditFault terms edits old new fault = new ≡ old
+
+-- What an error leaves: a refusal all as it was; lack of memory no change; and a fault what it leaves.
 abbrev pub LeavesEdits : Terms → List RefEdit → StoreState → StoreState → RefError → Type 0
-LeavesEdits terms edits old new (Store fault) = (new ≡ old) ⊎ AreCutShort terms edits old new
+LeavesEdits terms edits old new (Store fault) = LeavesEditFault terms edits old new fault
 LeavesEdits terms edits old new NoMemory = Becomes old new
 LeavesEdits terms edits old new e = new ≡ old
 
--- Why the edits are not made. A fault is one of what they read, or of the change, which is counted then. Lack of memory
--- needs no cause.
+-- Why there is a fault: one of writing is counted, and any other is of what the edits read.
+abbrev pub EditFaultCauses : Terms → List RefEdit → StoreState → StoreState → What → Type 0
+EditFaultCauses terms edits old new what.Write = HasCause old new what.Write
+EditFaultCauses terms edits old new fault = IsEditFault terms old edits fault
+
+-- Why the edits are not made. Lack of memory needs no cause.
 abbrev pub MakeCauses : Terms → List RefEdit → StoreState → StoreState → RefError → Type 0
-MakeCauses terms edits old new (Store fault) = IsEditFault terms old edits fault ⊎ HasCause old new fault
+MakeCauses terms edits old new (Store fault) = EditFaultCauses terms edits old new fault
 MakeCauses terms edits old new NoMemory = Unit {0}
 MakeCauses terms edits old new e = EditRefusal terms old.references edits e
 

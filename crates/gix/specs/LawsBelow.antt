@@ -44,4 +44,4 @@ pub record LawsBelow : Type 0 where
   pub writing : WritingAdds
   pub added : AddedIsFound
   pub found : FoundStays
-  pub made : MadeIsNotRefused
+  pub not_refused : MadeIsNotRefused

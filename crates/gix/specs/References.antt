@@ -1,8 +1,9 @@
 -- Listings of references.
-use Rattle.std.specs.Prelude.{◌≡◌, ◌⊎◌, ◌&&◌, ◌||◌, ℕ, Bool, true, false, not, List, map, nat_eq, codes, bytes_eq, Option, Some, None, IfSome}
+use Rattle.std.specs.Prelude.{◌≡◌, ◌⊎◌, ◌&&◌, ◌||◌, ◌==◌, ℕ, Bool, true, false, not, List, [], map, filter, nat_eq, codes, bytes_eq, Option, Some, None, IfSome}
 use Rattle.std.specs.List.{starts_with, AllByRecursion, list_all}
 use Rattle.gx_rules.specs.Path.{components}
 use Rattle.gx_store.specs.Kinds.{IsTargetOfKind}
+use Rattle.gx_store.specs.Listing as listing
 use Rattle.gx_store.specs.State.{RefState}
 use Rattle.gx_store.specs.declared.error.StoreError.{StoreError}
 use Rattle.gx_store.specs.declared.error.StoreError.TheVariants as failure
@@ -56,15 +57,45 @@ listing_part RelativePath = None
 listing_part (Store fault) = Some (failure.Fault fault)
 listing_part NoMemory = Some failure.NoMemory
 
--- The references whose names begin with a prefix are answered, where the prefix is a relative path. Each id is of the
--- repository's kind.
+-- The references whose names begin with a prefix are answered, in rising order of their names, where the prefix is a
+-- relative path. Each id is of the repository's kind.
 abbrev pub references_query : List ℕ → Query (List Reference) IterError
 references_query prefix = record {
   is = λ settings view list. (is_relative_path prefix ≡ true)
       × AllByRecursion (λ (reference : Reference). IsTargetOfKind view.hash reference.target) list
+      × listing.IsListing prefix (names_of list)
       × IfSome view.references (λ refs. AreReferences (space_of settings) prefix refs list);
   why = λ settings view e. (e ≡ RelativePath) × (is_relative_path prefix ≡ false);
   reads = λ settings view part. ReadsListing (space_of settings) prefix view.references part;
+  fails = listing_part;
+}
+
+-- ---- pseudo references
+
+-- a name of no directory, as HEAD (gitglossary(7), "pseudoref")
+abbrev pub is_pseudo : List ℕ → Bool
+is_pseudo name = list_all (λ byte. not (byte == 47)) name
+
+-- These are the references whose names have no slash, in rising order of their names, each as it is shown.
+pub record ArePseudo (space : List ℕ) (refs : RefState) (list : List Reference) : Type 0 where
+  pub all : List (List ℕ)
+  pub listing : IsListing space [] refs.targets all
+  pub names : names_of list ≡ filter is_pseudo all
+  pub each : AllByRecursion (λ (reference : Reference). IsReference space (Some refs) reference.name reference) list
+
+-- All names are listed, and the references of those without a slash are read.
+abbrev pub ReadsPseudo : List ℕ → Option RefState → What → Type 0
+ReadsPseudo space told part = (part ≡ what.Listing)
+    ⊎ ((name : List ℕ) × (part ≡ what.Name (stored_name space name)) × (is_pseudo name ≡ true)
+    × IfSome told (λ refs. IsListed space [] refs.targets name))
+
+-- The references without a slash in their names are answered. Each id is of the repository's kind.
+abbrev pub pseudo_query : Query (List Reference) IterError
+pseudo_query = record {
+  is = λ settings view list. AllByRecursion (λ (reference : Reference). IsTargetOfKind view.hash reference.target) list
+      × IfSome view.references (λ refs. ArePseudo (space_of settings) refs list);
+  why = λ settings view e. ⊥;
+  reads = λ settings view part. ReadsPseudo (space_of settings) view.references part;
   fails = listing_part;
 }
 
@@ -75,7 +106,7 @@ abbrev pub of_store : StoreError → IterError
 of_store failure.NoMemory = NoMemory
 of_store (failure.Fault fault) = Store fault
 
--- what of the refusal of a listing is the store's; a listing of names is refused for nothing else
+-- what of the refusal of a listing or a look-up is the store's; they are refused for nothing else
 abbrev pub store_error : RefError → StoreError
 store_error (ref_error.Store fault) = failure.Fault fault
 store_error error = failure.NoMemory

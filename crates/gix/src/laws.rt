@@ -21,6 +21,7 @@ ghost use Rattle.gix.specs.Admission.{IsAdmitted, IsValidCommit};
 ghost use Rattle.gix.specs.Causes.{Cause, CommitEditsCauses, IsFaultless};
 ghost use Rattle.gix.specs.Asking.{asks};
 ghost use Rattle.gix.specs.Held.{WhereTold};
+ghost use Rattle.gix.specs.ListingLaws.{ListsItsOwnReferences};
 ghost use Rattle.gix.specs.Logs.{log_query};
 ghost use Rattle.gix.specs.Machine.{Accepts, commit_edits_meaning};
 ghost use Rattle.gix.specs.Meaning.{IsLawful, Admits};
@@ -155,6 +156,13 @@ pub fn log_is_lawful()
 pub fn references_is_lawful()
     ensures { (prefix : List ℕ) → IsLawful (asks (references_query prefix)) }
 {}
+
+/// Where the references of a namespace are the same, so is what is listed of them: there is one list.
+pub fn references_are_of_their_namespace()
+    ensures { ListsItsOwnReferences }
+{
+    gx_refs::laws::listing_is_of_its_namespace();
+}
 
 /// To edit references is lawful.
 pub fn edit_references_is_lawful()

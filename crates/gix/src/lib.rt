@@ -9,25 +9,33 @@
 #![tactic(auto)]
 
 mod base;
+pub mod commit;
 mod commit_edits;
 mod edits;
 mod error;
+mod ext;
+pub mod id;
 pub mod laws;
-mod log;
 mod logs;
 mod moving;
 mod namespace;
 pub mod object;
+pub mod object_laws;
 mod plan;
 pub mod reference;
 mod repository;
 mod request;
 mod settings;
 mod space;
+mod types;
 mod write;
 
 pub use commit_edits::{MadeCommit, NO_PARENT_IDS};
 pub use error::CommitEditsError;
+pub use ext::ObjectIdExt;
 pub use gx_edit::PathEdit;
+pub use gx_store::Header;
+pub use id::calculate_auto_hex_len;
 pub use repository::Repository;
 pub use settings::Settings;
+pub use types::{Blob, Commit, Id, Object, ObjectDetached, Tag, Tree};

@@ -8,7 +8,7 @@ use std::alloc::Global;
 
 impl<S: Store> Repository<S> {
     ghost use Rattle.gix.specs.Asking.{asks};
-    ghost use Rattle.gix.specs.Logs.{log_query};
+    ghost use Rattle.gix.specs.Logs.{log_exists_query, log_query};
     ghost use Rattle.gix.specs.Meaning.{Means};
     ghost use Rattle.gix.specs.Repository.{held_by};
 
@@ -21,5 +21,14 @@ impl<S: Store> Repository<S> {
     {
         let stored = stored_name(namespace_of(&self.settings), name)?;
         self.store.log(alloc, &stored)
+    }
+
+    /// Whether a name has a log.
+    pub(crate) fn log_exists(&self, alloc: Global, name: &FullName) -> Result<bool, StoreError>
+        ensures { Means (asks (log_exists_query name.now)) (held_by S.state self.now) result
+            (held_by S.state self.now) }
+    {
+        let stored = stored_name(namespace_of(&self.settings), name)?;
+        self.store.log_exists(alloc, &stored)
     }
 }

@@ -9,7 +9,7 @@ ghost use Rattle.gix.specs.CommitRequest.{asked};
 ghost use Rattle.gix.specs.Reference.{asked_of, commit_terms, edit_of, edits_of};
 
 use crate::Settings;
-use crate::log::commit_log_message;
+use crate::reference::log;
 use crate::request::Request;
 use crate::space::namespace_of;
 use gx_hash::{NoMemory, ObjectId};
@@ -38,7 +38,8 @@ fn expected(request: &Request<'_>) -> PreviousValue
 fn edit_of(alloc: Global, request: &Request<'_>, id: ObjectId) -> Result<RefEdit, NoMemory>
     ensures { IfOk result (λ edit. edit ≡ edit_of (asked request.now) id) }
 {
-    let message = commit_log_message(alloc, request.parents, request.message)?;
+    let parents = request.parents.len();
+    let message = log::message(alloc, b"commit", request.message, parents)?;
     let name = request.reference.try_clone()?;
     let log = LogChange {
         mode: RefLog::AndReference,

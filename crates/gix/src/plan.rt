@@ -148,7 +148,11 @@ fn check_identities(request: &Request<'_>) -> Result<(), CommitEditsError>
     }
 }
 
-fn commit_bytes(alloc: Global, tree: &ObjectId, request: &Request<'_>) -> Result<Bytes, NoMemory>
+pub(crate) fn commit_bytes(
+    alloc: Global,
+    tree: &ObjectId,
+    request: &Request<'_>,
+) -> Result<Bytes, NoMemory>
     ensures { IfOk result (λ bytes. bytes
         ≡ plain_commit_bytes tree.now (asked request.now).parents (asked request.now).author
         (asked request.now).committer (asked request.now).message) }

@@ -1,7 +1,14 @@
 //! The repository itself, and what it shows of its store.
 
+mod reference;
+
 ghost use Rattle.std.specs.Prelude.{◌≡◌};
 ghost use Rattle.gix.specs.Repository.{store_of, settings_of};
+
+mod commit;
+mod header;
+mod write;
+mod write_stream;
 
 use crate::Settings;
 use gx_hash::HashKind;

@@ -3,7 +3,7 @@ use crate::error::FileError;
 use crate::name::{LOCK, joined};
 use memchr::memrchr;
 use std::alloc::Global;
-use std::fs::{self, File, OpenOptions};
+use std::fs::{self, File, OpenOptions, ReadDir};
 use std::io::{self, ErrorKind, Read, Seek, SeekFrom, Write};
 use std::os::unix::fs::FileExt;
 use std::rt::Files;
@@ -68,6 +68,25 @@ pub(crate) fn read_start<R: Files<File = File>>(
 pub(crate) fn is_file<R: Files>(rt: &R, path: &str) -> Result<bool, FileError> {
     let found = unless_absent(fs::metadata(rt, path))?;
     Ok(found.is_some_and(|found| found.is_file()))
+}
+
+fn is_no_directory(kind: ErrorKind) -> bool {
+    matches!(
+        kind,
+        ErrorKind::NotFound | ErrorKind::NotADirectory | ErrorKind::InvalidFilename
+    )
+}
+
+/// The entries of a directory, where there is one.
+pub(crate) fn entries<R: Files + AllocGlobal + Clone + Drop>(
+    rt: &R,
+    path: &str,
+) -> Result<Option<ReadDir<R>>, FileError> {
+    match fs::read_dir(rt, path) {
+        Ok(entries) => Ok(Some(entries)),
+        Err(error) if is_no_directory(error.kind()) => Ok(None),
+        Err(error) => Err(FileError::from(error)),
+    }
 }
 
 /// Makes the directory that a file is to be in.

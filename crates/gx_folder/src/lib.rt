@@ -12,6 +12,7 @@ mod error;
 mod files;
 mod folder;
 mod format;
+mod index;
 mod listing;
 mod log;
 mod name;

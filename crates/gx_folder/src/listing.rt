@@ -4,13 +4,13 @@ ghost use Rattle.std.specs.List.{starts_with};
 ghost use Rattle.gx_store.specs.Listing.{IsListing};
 
 use crate::error::FileError;
+use crate::files::entries;
 use crate::name::{is_own, joined, name_of, push_reference};
 use gx_hash::NoMemory;
 use gx_rules::FullName;
 use gx_store::Names;
 use std::alloc::Global;
-use std::fs::{self, DirEntry};
-use std::io::ErrorKind;
+use std::fs::DirEntry;
 use std::rt::Files;
 
 /// Directories that are still to be gone through, by their paths below the folder, and what was found so far.
@@ -65,10 +65,8 @@ impl Walk {
         let alloc = rt.alloc();
         let above = joined(alloc, root, "/")?;
         let path = joined(alloc, above.as_str(), below)?;
-        let entries = match fs::read_dir(rt, path.as_str()) {
-            Ok(entries) => entries,
-            Err(error) if is_no_directory(error.kind()) => return Ok(()),
-            Err(error) => return Err(FileError::from(error)),
+        let Some(entries) = entries(rt, path.as_str())? else {
+            return Ok(());
         };
         for entry in entries {
             let entry = entry?;
@@ -76,13 +74,6 @@ impl Walk {
         }
         Ok(())
     }
-}
-
-fn is_no_directory(kind: ErrorKind) -> bool {
-    matches!(
-        kind,
-        ErrorKind::NotFound | ErrorKind::NotADirectory | ErrorKind::InvalidFilename
-    )
 }
 
 /// The references in a directory, by its path below the folder, and in those below it. They are in no order.

@@ -101,6 +101,12 @@ pub(crate) fn joined(alloc: Global, path: &str, more: &str) -> Result<String, No
     Ok(whole)
 }
 
+/// Whether a name is so many hex digits in lower case.
+pub(crate) fn is_digits(name: &str, length: usize) -> bool {
+    let digits = name.as_bytes();
+    digits.len() == length && digits.iter().all(|digit| DIGITS.contains(digit))
+}
+
 fn digit_of(byte: u8) -> Option<u8> {
     let at = DIGITS.iter().position(|digit| *digit == byte)?;
     u8::try_from(at).ok()

@@ -1,9 +1,9 @@
 //! Objects of a folder. Each is written whole beside its place and renamed, so it is there whole or not at all.
-use crate::Folder;
 use crate::error::FileError;
 use crate::files::{START, is_file, read, read_start, rename, write};
 use crate::name::{joined, object_path};
 use crate::object::{object_text, read_header, read_object};
+use crate::{Folder, index};
 use gx_hash::{Bytes, HashKind, ObjectId};
 use gx_object::Kind;
 use gx_store::{Header, Objects, StoreError, What};
@@ -70,6 +70,20 @@ impl<R: Files<File = File> + AllocGlobal + Clone + Drop> Objects for Folder<R> {
         match is_file(&self.rt, path.as_str()) {
             Ok(is_there) => Ok(is_there),
             Err(error) => Err(error.at(What::Object(*id))),
+        }
+    }
+
+    fn count(&self, _alloc: Global) -> Result<u64, StoreError> {
+        match index::count(&self.rt, self.root.as_str(), self.hash.len_in_hex()) {
+            Ok(count) => Ok(count),
+            Err(error) => Err(error.at(What::Index)),
+        }
+    }
+
+    fn longest_shared(&self, _alloc: Global, id: &ObjectId) -> Result<usize, StoreError> {
+        match index::longest_shared(&self.rt, self.root.as_str(), id) {
+            Ok(longest) => Ok(longest),
+            Err(error) => Err(error.at(What::Index)),
         }
     }
 

@@ -6,7 +6,8 @@ use Rattle.std.specs.BTreeMap.{is_at}
 use Rattle.std.specs.Cmp.{eq_by_cmp_equiv}
 use Rattle.gx_hash.specs.ObjectIds.{id_eq, derived_cmp, has_id}
 use Rattle.gx_hash.specs.declared.oid.ObjectId.{ObjectId}
-use Rattle.gx_hash.specs.Laws.IdOrder.{id_cmp_total, derived_cmp-id_cmp}
+use Rattle.gx_hash.specs.Laws.IdCmp.{id_cmp_total}
+use Rattle.gx_hash.specs.Laws.IdOrder.{derived_cmp-id_cmp}
 use Rattle.gx_hash.specs.Laws.IdEquality.{ids_tied}
 
 -- what a set that is kept in the derived order finds at an id

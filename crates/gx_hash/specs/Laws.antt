@@ -2,6 +2,7 @@
 -- are in the files below.
 pub mod Digests
 pub mod Digits
+pub mod IdCmp
 pub mod IdEquality
 pub mod IdOrder
 use Rattle.std.specs.Prelude.{◌≡◌, ℕ, true, List, length, Some, Ok}
@@ -15,6 +16,7 @@ use Rattle.gx_hash.specs.HashKind.{kind_of, len_in_bytes}
 use Rattle.gx_hash.specs.IdDigits.{IsHexId, IdOfDigits}
 use Rattle.gx_hash.specs.ObjectId.{object_id, bytes_of, hex_of, id_cmp, id_from_bytes, id_from_hex}
 use Rattle.gx_hash.specs.ObjectIds.{id_eq, derived_cmp}
+use Rattle.gx_hash.specs.Laws.IdCmp as cmp
 use Rattle.gx_hash.specs.Laws.IdOrder as ids
 use Rattle.gx_hash.specs.Laws.IdEquality as equality
 use Rattle.gx_hash.specs.Laws.Digests as digests
@@ -22,7 +24,7 @@ use Rattle.gx_hash.specs.Laws.Digits as digits
 
 -- the order of ids is total
 pub id_cmp_total : IsTotalOrder id_cmp
-id_cmp_total = ids.id_cmp_total
+id_cmp_total = cmp.id_cmp_total
 
 -- and has no two ids as equal
 pub id_cmp-IsAntisymmetric : IsAntisymmetric id_cmp

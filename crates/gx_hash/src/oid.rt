@@ -7,10 +7,13 @@ ghost use Rattle.gx_hash.specs.IdDigits.{IsHexId};
 ghost use Rattle.gx_hash.specs.PrefixDigits.{len_in_hex, padded};
 ghost use Rattle.gx_hash.specs.declared.kind.HashKind.{HashKind};
 ghost use Rattle.hex.specs.Hex.{encode_lower};
+ghost use Rattle.std.specs.Ordering.{nat_cmp};
+ghost use Rattle.std.specs.Cmp.Lexicographic.{slice_cmp};
 
 use crate::{Bytes, HashKind, NoMemory};
 use hex::{FromHex, FromHexError};
 use std::alloc::Global;
+use std::cmp::Ordering;
 use std::fmt;
 use thiserror::Error;
 
@@ -42,7 +45,7 @@ const EMPTY_BLOB_SHA256: [u8; 32] = [
 /// let is_same = id == same;
 /// let digits = id.to_hex(alloc)?;
 /// ```
-#[derive(Clone, Copy, PartialEq, Eq, PartialOrd, Ord, Hash)]
+#[derive(Clone, Copy, PartialEq, Eq, Hash)]
 pub enum ObjectId {
     Sha1([u8; 20]),
     Sha256([u8; 32]),
@@ -233,6 +236,57 @@ fn keep_digits<const N: usize>(bytes: &[u8; N], hex_len: usize) -> [u8; N]
         kept[whole] = bytes[whole] / 16 * 16;
     }
     kept
+}
+
+impl Ord for ObjectId {
+    ghost use Rattle.gx_hash.specs.ObjectId.{id_cmp};
+    ghost use Rattle.gx_hash.specs.Laws.IdCmp.{id_cmp_total, id_cmp-eq, id_cmp-partial};
+
+    ghost cmp = { id_cmp };
+
+    ghost total = { id_cmp_total };
+
+    ghost matches_partial_cmp = { id_cmp-partial };
+
+    ghost matches_eq = { id_cmp-eq };
+
+    fn cmp(&self, other: &ObjectId) -> Ordering {
+        match (self, other) {
+            (ObjectId::Sha1(a), ObjectId::Sha1(b)) => cmp_bytes(a, b),
+            (ObjectId::Sha1(_), ObjectId::Sha256(_)) => Ordering::Less,
+            (ObjectId::Sha256(_), ObjectId::Sha1(_)) => Ordering::Greater,
+            (ObjectId::Sha256(a), ObjectId::Sha256(b)) => cmp_bytes(a, b),
+        }
+    }
+}
+
+impl PartialOrd for ObjectId {
+    ghost use Rattle.std.specs.Ordering.{as_partial_cmp};
+    ghost use Rattle.gx_hash.specs.ObjectId.{id_cmp};
+    ghost use Rattle.gx_hash.specs.Laws.IdCmp.{id_partial_order};
+
+    ghost partial_cmp = { as_partial_cmp id_cmp };
+
+    ghost laws = { id_partial_order };
+
+    fn partial_cmp(&self, other: &ObjectId) -> Option<Ordering> {
+        Some(self.cmp(other))
+    }
+}
+
+/// The order of two rows of bytes. Ids seldom share their first two bytes, so those are looked at before the whole.
+fn cmp_bytes(a: &[u8], b: &[u8]) -> Ordering
+    requires first { 2 ≤ length a.now }
+    requires second { 2 ≤ length b.now }
+    ensures { result ≡ slice_cmp nat_cmp a.now b.now }
+{
+    if a[0] != b[0] {
+        a[0].cmp(&b[0])
+    } else if a[1] != b[1] {
+        a[1].cmp(&b[1])
+    } else {
+        a.cmp(b)
+    }
 }
 
 impl fmt::Display for ObjectId {

@@ -7,7 +7,10 @@ pub mod KindLemmas
 pub mod Listings
 pub mod LogLemmas
 pub mod MapLemmas
+pub mod NearestLemmas
 pub mod OutsideLemmas
+pub mod PrefixLemmas
 pub mod Prefixes
+pub mod SharedLemmas
 pub mod SlotLemmas
 pub mod WrittenLines

@@ -1,9 +1,10 @@
 -- Maps that are kept as entries.
-use Rattle.std.proofs.Common.{◌≡◌, ◌∙◌, sym, ap, refl, subst, cond, List, [], ◌∷◌, ℕ, Some, None, is_some, IsSome}
+use Rattle.std.proofs.Common.{◌≡◌, ◌∙◌, sym, ap, refl, subst, cond, List, [], ◌∷◌, ℕ, Some, None, is_some, IsSome, length}
 use Rattle.std.specs.declared.cmp.Ordering.{Ordering}
 use Rattle.std.specs.BTreeMap.{is_at}
 use Rattle.std.specs.Cmp.{IsTotalOrder, eq_by_cmp_equiv}
-use Rattle.std.specs.Map.{lookup}
+use Rattle.std.specs.Map.{lookup, keys_of}
+use Rattle.std.specs.List.Sorted.{IsStrictlySortedBy}
 use Rattle.gx_rules.specs.Name.{name_cmp}
 use Rattle.gx_hash.specs.ObjectId.{id_cmp}
 use Rattle.gx_hash.specs.declared.oid.ObjectId.{ObjectId}
@@ -11,7 +12,8 @@ use Rattle.gx_object.specs.declared.kind.Kind.{Kind}
 use Rattle.gx_store.specs.Content.{with_object}
 use Rattle.gx_hash.specs.Laws.{id_cmp_total, id_cmp-IsAntisymmetric, derived_cmp-id_cmp}
 use Rattle.gx_hash.specs.ObjectIds.{derived_cmp}
-use Rattle.std.specs.FinMap.{IsAntisymmetric, slice_cmp-IsAntisymmetric, nat_cmp-IsAntisymmetric, find, get, insert, from_entries, get-from_entries, get-insert, same_map}
+use Rattle.std.specs.FinMap.{IsAntisymmetric, slice_cmp-IsAntisymmetric, nat_cmp-IsAntisymmetric, find, get, insert, empty, entries, len, put, from_entries, get-from_entries, get-insert, entries-insert, len-entries, len-empty, same_map}
+use Rattle.gx_store.proofs.Keys.{no_length, put_first}
 
 -- two ways to find the first entry of a key
 pub find_is : {K X : Type 0} (R : K → K → Ordering) (es : List (K × X)) (q : K) → find R q es ≡ lookup (is_at (R q)) es
@@ -48,3 +50,13 @@ object_added es fs k v u h = inserted_object es fs k v u
 -- names that compare as equal are one
 pub exact_names : IsAntisymmetric name_cmp
 exact_names = slice_cmp-IsAntisymmetric nat_cmp-IsAntisymmetric
+
+-- entries in order are those of their map
+entries_kept : {K X : Type 0} {R : K → K → Ordering} → IsTotalOrder R → (es : List (K × X)) → IsStrictlySortedBy R (keys_of es) → entries (from_entries {R = R} es) ≡ es
+unfolding IsStrictlySortedBy
+entries_kept {X = X} {R = R} total [] h = no_length _ (sym (len-entries (empty {X = X} {R = R})) ∙ len-empty R X)
+entries_kept {R = R} total (e ∷ es) h = entries-insert total (from_entries es) e.0 e.1 ∙ ap (put R e.0 e.1) (entries_kept total es h.1) ∙ put_first R e.0 e.1 es h.0
+
+-- so the map has as many
+pub len_kept : {X : Type 0} (es : List (ObjectId × X)) → IsStrictlySortedBy derived_cmp (keys_of es) → length es ≡ len (from_entries {R = id_cmp} es)
+len_kept es h = sym (len-entries (from_entries {R = id_cmp} es) ∙ ap length (entries_kept id_cmp_total es (subst (λ R. IsStrictlySortedBy R (keys_of es)) derived_cmp-id_cmp h)))

@@ -49,6 +49,14 @@ or_name name test Index = test Index
 or_name name test Listing = test Listing
 or_name name test Write = test Write
 
+-- a test that also holds of the index
+abbrev pub or_index : (What → Bool) → What → Bool
+or_index test (Object id) = test (Object id)
+or_index test (Name name) = test (Name name)
+or_index test Index = true
+or_index test Listing = test Listing
+or_index test Write = test Write
+
 -- a test that also holds of the listing
 abbrev pub or_listing : (What → Bool) → What → Bool
 or_listing test (Object id) = test (Object id)
@@ -64,6 +72,10 @@ with_broken_object id state = record state { unreadable = or_object id state.unr
 -- the same of a name
 abbrev pub with_broken_name : List ℕ → StoreState → StoreState
 with_broken_name name state = record state { unreadable = or_name name state.unreadable }
+
+-- the same of the index
+abbrev pub with_broken_index : StoreState → StoreState
+with_broken_index state = record state { unreadable = or_index state.unreadable }
 
 -- the same of the listing
 abbrev pub with_broken_listing : StoreState → StoreState

@@ -1,11 +1,13 @@
 -- Laws of what is stored and of what changes make.
-use Rattle.std.specs.Prelude.{◌≡◌, ◌≢◌, ℕ, List, ◌++◌, Some, IfSome, IsTrue}
+use Rattle.std.specs.Prelude.{◌≡◌, ◌≢◌, ℕ, ◌≤◌, ◌<◌, List, ◌++◌, length, take, Some, IfSome, IsTrue}
 use Rattle.std.specs.List.{AllByRecursion}
 use Rattle.std.specs.FinMap.{get, contains_key}
 use Rattle.gx_hash.specs.declared.kind.HashKind.{HashKind}
 use Rattle.gx_hash.specs.declared.oid.ObjectId.{ObjectId}
+use Rattle.gx_hash.specs.ObjectId.{hex_of}
 use Rattle.gx_object.specs.declared.kind.Kind.{Kind}
 use Rattle.gx_store.specs.Content.{Content, lookup, with_objects, HoldsAll, Adds, AreApart}
+use Rattle.gx_store.specs.Sharing.{IsAnother, shared_digits}
 use Rattle.gx_store.specs.State.{StoreState, RefState, Becomes, HasCause, stored, all_stored}
 use Rattle.gx_store.specs.Change.{target_after, log_after, refs_after, applied, HaveDistinctNames, AfterFault}
 use Rattle.gx_store.specs.declared.change.RefChange.{RefChange}
@@ -46,6 +48,21 @@ abbrev pub StoredStays : Type 0
 StoredStays =
     (hash : HashKind) (objects : List (Kind × List ℕ)) (old new : Content) → Adds hash objects old new
     → (id : ObjectId) (object : Kind × List ℕ) → get old id ≡ Some object → get new id ≡ Some object
+
+-- Two ids share as many first digits as they begin with alike.
+abbrev pub SharesPrefix : Type 0
+SharesPrefix =
+    (a b : ObjectId) (n : ℕ) → n ≤ length (hex_of a) → take n (hex_of a) ≡ take n (hex_of b) → n ≤ shared_digits a b
+
+-- They begin alike as far as they share digits.
+abbrev pub BeginsAlike : Type 0
+BeginsAlike = (a b : ObjectId) (n : ℕ) → n ≤ shared_digits a b → take n (hex_of a) ≡ take n (hex_of b)
+
+-- Another id of a store does not share all digits.
+abbrev pub SharesLess : ObjectId → Type 0
+SharesLess id =
+    (content : Content) (other : ObjectId) → IsAnother content id other
+    → shared_digits id other < length (hex_of id)
 
 -- A name that no change names keeps its target and its log.
 abbrev pub OthersAreKept : Type 0

@@ -14,5 +14,6 @@ pub mod LogText
 pub mod Memory
 pub mod MemoryEnds
 pub mod Outside
+pub mod Sharing
 pub mod Slots
 pub mod State

@@ -14,7 +14,7 @@ use Rattle.gx_store.specs.declared.error.What.TheVariants.{Object, Name, Index, 
 abbrev pub is_broken : Memory → What → Bool
 is_broken m (Object id) = list_any (λ y. id_eq y id) m.broken_objects.items
 is_broken m (Name name) = list_any (λ y. pointwise nat_eq y name) m.broken_names.items
-is_broken m Index = false
+is_broken m Index = m.is_index_broken
 is_broken m Listing = m.is_listing_broken
 is_broken m Write = false
 

@@ -1,9 +1,10 @@
 //! Laws of what is stored and of what changes make, for proofs about stores. The functions do nothing.
-ghost use Rattle.gx_store.specs.Laws.{WritesOnce, WritingAdds, AddsTogether, AddedIsFound, FoundStays, StoredStays, OthersAreKept, EachIsMade, SameAfter, AppliedAfter, StoredAfter, CauseAfter, FaultAfter};
+ghost use Rattle.gx_store.specs.Laws.{WritesOnce, WritingAdds, AddsTogether, AddedIsFound, FoundStays, StoredStays, SharesPrefix, BeginsAlike, SharesLess, OthersAreKept, EachIsMade, SameAfter, AppliedAfter, StoredAfter, CauseAfter, FaultAfter};
 ghost use Rattle.gx_hash.specs.declared.kind.HashKind.{HashKind};
 ghost use Rattle.gx_store.specs.LogText.{line_bytes, SpellsLine, CanWriteLine};
 
 use crate::LogLine;
+use gx_hash::ObjectId;
 use gx_hash::laws::id_has_digits;
 use gx_object::laws::written_identity_is_read;
 
@@ -41,6 +42,15 @@ pub fn found_stays()
 pub fn stored_stays()
     ensures { StoredStays }
 {}
+
+/// Two ids share so many digits exactly where they begin alike so far, and another id of a store does not share all.
+pub fn shared_digits_are_a_prefix(id: &ObjectId)
+    ensures shares { SharesPrefix }
+    ensures begins { BeginsAlike }
+    ensures less { SharesLess id.now }
+{
+    id_has_digits(id);
+}
 
 /// A name that no change names keeps its target and its log.
 pub fn others_are_kept()

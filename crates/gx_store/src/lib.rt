@@ -1,5 +1,5 @@
-//! The traits between the engine and the outside: stores of objects and references, and the ends that a script is read
-//! from and replies are written to.
+//! The traits between the engine and the outside: stores of objects and references, the ends that a script is read from
+//! and replies are written to, and what makes signatures.
 //!
 //! The contracts speak of the state of a store: its objects by id, its references and logs by name, which of them can't
 //! be read, and how many writes have failed. They say what each call answers and how it changes that state, so callers
@@ -14,9 +14,12 @@ pub mod laws;
 mod log_line;
 mod maps;
 mod memory;
+mod memory_signer;
 mod memory_sink;
 mod memory_source;
 mod names;
+mod sharing;
+mod signer;
 mod sink;
 mod slots;
 mod source;
@@ -31,9 +34,11 @@ pub use change::{LogAct, RefChange, TargetChange};
 pub use error::{StoreError, What};
 pub use log_line::{LineError, Lines, LogLine, push_log_line};
 pub use memory::Memory;
+pub use memory_signer::MemorySigner;
 pub use memory_sink::MemorySink;
 pub use memory_source::MemorySource;
 pub use names::Names;
+pub use signer::{Signer, SignerError};
 pub use sink::{Sink, SinkError};
 pub use source::{Source, SourceError};
 pub use std_sink::StdSink;

@@ -1,6 +1,6 @@
 // Objects in a tree map.
 ghost use Rattle.std.specs.Prelude.{◌≡◌, IfOk, OnOk, OnErr, option_map};
-ghost use Rattle.std.specs.FinMap.{get, insert, contains_key};
+ghost use Rattle.std.specs.FinMap.{get, insert, contains_key, len};
 ghost use Rattle.gx_store.specs.Content.{with_object};
 ghost use Rattle.gx_store.specs.Headers.{header_of};
 ghost use Rattle.gx_store.specs.Kept.{content_of};
@@ -55,6 +55,13 @@ pub(crate) fn has_object(map: &BTreeMap<ObjectId, (Kind, Bytes)>, id: &ObjectId)
     ensures { result ≡ contains_key (content_of map.now) id.now }
 {
     map.contains_key(id)
+}
+
+#[tactic(auto, using(crate::proofs::MapLemmas::len_kept))]
+pub(crate) fn count(map: &BTreeMap<ObjectId, (Kind, Bytes)>) -> u64
+    ensures { result ≡ len (content_of map.now) }
+{
+    map.len() as u64
 }
 
 /// Puts an object at an id, over what is there.

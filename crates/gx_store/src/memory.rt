@@ -5,7 +5,7 @@ ghost use Rattle.gx_store.specs.Kinds.{AreRefsOfKind, AreRefsOfKind-prop, AreCha
 use crate::slots::Slot;
 use crate::{
     Header, Lines, Meanings, Names, Objects, RefChange, References, Store, StoreError, Target,
-    What, conflict, maps, slots,
+    What, conflict, maps, sharing, slots,
 };
 use gx_hash::{Bytes, HashKind, NoMemory, ObjectId};
 use gx_object::Kind;
@@ -29,6 +29,7 @@ pub struct Memory {
     ghost kinds: { AreRefsOfKind hash (refs_of slots) } by { AreRefsOfKind-prop hash (refs_of slots) },
     broken_objects: Vec<ObjectId>,
     broken_names: Vec<FullName>,
+    is_index_broken: bool,
     is_listing_broken: bool,
     /// The calls of `write` and `apply` so far.
     calls: u64,
@@ -45,7 +46,7 @@ impl Memory {
     ghost use Rattle.gx_store.specs.Calls.{calls_of, no_calls, is_due, counted, with_due, is_fault};
     ghost use Rattle.gx_store.specs.declared.error.What.TheVariants as part;
     ghost use Rattle.gx_store.specs.declared.error.StoreError.TheVariants.{NoMemory as no_memory};
-    ghost use Rattle.gx_store.specs.Breaks.{Fails, fresh, with_broken_object, with_broken_name, with_broken_listing, with_object_put};
+    ghost use Rattle.gx_store.specs.Breaks.{Fails, fresh, with_broken_object, with_broken_name, with_broken_index, with_broken_listing, with_object_put};
 
     /// A store of a new repository: without objects, and with a `HEAD` whose branch is not there yet.
     #[tactic(auto, using(crate::proofs::KindLemmas::fresh_of_kind), unfolding(crate::specs::Memory::memory_state))]
@@ -59,6 +60,7 @@ impl Memory {
             slots: slots::start(alloc)?,
             broken_objects: Vec::new(alloc),
             broken_names: Vec::new(alloc),
+            is_index_broken: false,
             is_listing_broken: false,
             calls: 0,
             failing: Vec::new(alloc),
@@ -86,6 +88,15 @@ impl Memory {
     {
         self.broken_names.push(name)?;
         Ok(())
+    }
+
+    /// From now on objects can't be counted, and ids not be compared with all others.
+    #[tactic(auto, unfolding(crate::specs::Memory::memory_state))]
+    pub fn break_index(&mut self)
+        ensures state { memory_state self.new ≡ with_broken_index (memory_state self.old) }
+        ensures calls { calls_of self.new ≡ calls_of self.old }
+    {
+        self.is_index_broken = true;
     }
 
     /// From now on names can't be listed.
@@ -153,6 +164,19 @@ impl Memory {
             return Err(StoreError::Fault {
                 what: What::Name(name.try_clone()?),
             });
+        }
+        Ok(())
+    }
+
+    /// A fault where tests have broken the index.
+    #[tactic(auto, unfolding(crate::specs::Memory::memory_state))]
+    fn check_index(&self) -> Result<(), StoreError>
+        ensures fault { IfFault result (IsUnreadable (memory_state self.now) part.Index) }
+        ensures broken { is_fault result ≡ (memory_state self.now).unreadable part.Index }
+        ensures memory { IsErrOf result no_memory → ⊥ }
+    {
+        if self.is_index_broken {
+            return Err(StoreError::Fault { what: What::Index });
         }
         Ok(())
     }
@@ -226,11 +250,12 @@ impl Meanings for Memory {
 #[tactic(auto, unfolding(crate::specs::Memory::memory_state))]
 impl Objects for Memory {
     ghost use Rattle.std.specs.Prelude.{IfSome, IsErrOf, option_map};
-    ghost use Rattle.std.specs.FinMap.{get, contains_key};
+    ghost use Rattle.std.specs.FinMap.{get, contains_key, len};
     ghost use Rattle.gx_hash.specs.ObjectId.{object_id};
     ghost use Rattle.gx_object.specs.Kind.{kind_name};
     ghost use Rattle.gx_store.specs.Memory.{memory_state};
     ghost use Rattle.gx_store.specs.Headers.{header_of};
+    ghost use Rattle.gx_store.specs.Sharing.{IsLongestShared};
     ghost use Rattle.gx_store.specs.State.{Becomes, HasCause, IfFault, IsUnreadable, stored};
     ghost use Rattle.gx_store.specs.Calls.{calls_of, is_due, counted, is_fault};
     ghost use Rattle.gx_store.specs.declared.error.What.TheVariants as part;
@@ -270,6 +295,27 @@ impl Objects for Memory {
     {
         self.check_object(id)?;
         Ok(maps::has_object(&self.objects, id))
+    }
+
+    fn count(&self, _alloc: Global) -> Result<u64, StoreError>
+        ensures found { IfOk result (λ found. IfSome (memory_state self.now).content (λ content. found ≡ len content)) }
+        ensures fault { IfFault result (IsUnreadable (memory_state self.now) part.Index) }
+        ensures broken { is_fault result ≡ (memory_state self.now).unreadable part.Index }
+        ensures memory { IsErrOf result no_memory → ⊥ }
+    {
+        self.check_index()?;
+        Ok(maps::count(&self.objects))
+    }
+
+    fn longest_shared(&self, _alloc: Global, id: &ObjectId) -> Result<usize, StoreError>
+        ensures found { IfOk result (λ found. IfSome (memory_state self.now).content (λ content.
+            IsLongestShared content id.now found)) }
+        ensures fault { IfFault result (IsUnreadable (memory_state self.now) part.Index) }
+        ensures broken { is_fault result ≡ (memory_state self.now).unreadable part.Index }
+        ensures memory { IsErrOf result no_memory → ⊥ }
+    {
+        self.check_index()?;
+        Ok(sharing::longest_shared(&self.objects, id))
     }
 
     #[tactic(auto, using(crate::proofs::Becoming::becomes))]

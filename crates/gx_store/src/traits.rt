@@ -1,6 +1,6 @@
 ghost use Rattle.std.specs.Prelude.{◌≡◌, IfOk, IfSome, IfNone, OnOk, OnErr, IsErrOf, IsSome, filter, nat_eq, option_map};
 ghost use Rattle.std.specs.List.{starts_with};
-ghost use Rattle.std.specs.FinMap.{get, contains_key, keys};
+ghost use Rattle.std.specs.FinMap.{get, contains_key, keys, len};
 ghost use Rattle.gx_hash.specs.ObjectId.{object_id};
 ghost use Rattle.gx_object.specs.Kind.{kind_name};
 ghost use Rattle.gx_store.specs.Headers.{header_of};
@@ -9,6 +9,7 @@ ghost use Rattle.gx_store.specs.Kinds.{AreChangesOfKind, IsTargetOfKind, AreLine
 ghost use Rattle.gx_store.specs.Change.{applied, HaveDistinctNames, AfterFault};
 ghost use Rattle.gx_store.specs.Conflict.{Conflict, IsFree};
 ghost use Rattle.gx_store.specs.Listing.{IsListing};
+ghost use Rattle.gx_store.specs.Sharing.{IsLongestShared};
 ghost use Rattle.gx_store.specs.declared.error.What.TheVariants as part;
 ghost use Rattle.gx_store.specs.declared.error.StoreError.TheVariants.{NoMemory as no_memory};
 
@@ -55,6 +56,17 @@ pub trait Objects: Meanings {
         ensures found { IfOk result (λ found. IfSome (Self.state self.now).content (λ content.
             found ≡ contains_key content id.now)) }
         ensures fault { IfFault result (IsUnreadable (Self.state self.now) (part.Object id.now)) };
+
+    /// How many objects there are.
+    fn count(&self, alloc: Global) -> Result<u64, StoreError>
+        ensures found { IfOk result (λ found. IfSome (Self.state self.now).content (λ content. found ≡ len content)) }
+        ensures fault { IfFault result (IsUnreadable (Self.state self.now) part.Index) };
+
+    /// The greatest number of first hex digits that the id shares with another id of an object, 0 without another.
+    fn longest_shared(&self, alloc: Global, id: &ObjectId) -> Result<usize, StoreError>
+        ensures found { IfOk result (λ found. IfSome (Self.state self.now).content (λ content.
+            IsLongestShared content id.now found)) }
+        ensures fault { IfFault result (IsUnreadable (Self.state self.now) part.Index) };
 
     /// Stores an object under its id, unless that is there.
     fn write(

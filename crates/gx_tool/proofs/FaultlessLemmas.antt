@@ -39,7 +39,7 @@ served_stays : CallLaws → (request : Request) (old : Held) (reply : Reply) (ne
 unfolding Serves
 served_stays laws request old reply new h = given_stays (call_of request) (lawful laws request) old reply new h
 
-all_stay : CallLaws → (old : Held) (requests : List Request) (replies : List Reply) (new : Held) → ServesAll old requests replies new → Stays old.store new.store
+pub all_stay : CallLaws → (old : Held) (requests : List Request) (replies : List Reply) (new : Held) → ServesAll old requests replies new → Stays old.store new.store
 unfolding ServesAll
 all_stay laws old [] [] new h = stays_same old.store new.store (ap (λ (held : Held). held.store) h)
 all_stay laws old [] (reply ∷ replies) new h = absurd h
@@ -56,7 +56,7 @@ stopped_fault laws request old new fault readable h =
     let l = lawful laws request in
     l.lawful.rises old.settings old.store new.store h.failure fault readable (l.faults h.failure fault h.told) h.cause
 
-fault_rises : CallLaws → (start now held : Held) (request : Request) (fault : What) → ((part : What) → start.store.unreadable part ≡ false) → Stays start.store held.store → Stops held request now (no_reply.Store fault) → Rose start.store.faults now.store.faults
+pub fault_rises : CallLaws → (start now held : Held) (request : Request) (fault : What) → ((part : What) → start.store.unreadable part ≡ false) → Stays start.store held.store → Stops held request now (no_reply.Store fault) → Rose start.store.faults now.store.faults
 fault_rises laws start now held request fault readable stays stops =
     let rose = stopped_fault laws request held now fault (λ part. ap (λ f. f part) stays.parts ∙ readable part) stops in
     rose_before start.store.faults held.store.faults now.store.faults stays.later rose

@@ -4,6 +4,8 @@ pub mod CourseLemmas
 pub mod EndLemmas
 pub mod FaultlessLemmas
 pub mod FormLemmas
+pub mod GeneratedNames
+pub mod GeneratedPaths
 pub mod GeneratingLemmas
 pub mod LawLemmas
 pub mod LogForm
@@ -14,5 +16,8 @@ pub mod ReferenceForms
 pub mod RefsForm
 pub mod SummaryLemmas
 pub mod UnservedForm
+pub mod NewCommits
+pub mod UnbornLemmas
+pub mod ValidCommits
 pub mod ValidLemmas
 pub mod WordLemmas

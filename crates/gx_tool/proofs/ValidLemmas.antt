@@ -19,7 +19,7 @@ accepted_by : (c : Call) → Allowed c → (old : Whole) (reply : Reply) (next :
 accepted_by c allowed old (Accepted answer) next valid step = refl
 accepted_by c allowed old (Refused refusal) next valid step = absurd (allowed old.settings old.state next.state step.error refusal valid step.told step.refuses)
 
-accepted_step : CallLaws → (request : Request) (old : Whole) (reply : Reply) (next : Whole) → IsValid old request → Step old request reply next → is_accepted reply ≡ true
+pub accepted_step : CallLaws → (request : Request) (old : Whole) (reply : Reply) (next : Whole) → IsValid old request → Step old request reply next → is_accepted reply ≡ true
 unfolding IsValid Step
 accepted_step laws request old reply next valid step = accepted_by (call_of request) (allowed laws request) old reply next valid step
 

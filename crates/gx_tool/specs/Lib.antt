@@ -13,5 +13,6 @@ pub mod ReferenceForms
 pub mod RefsForm
 pub mod Reply
 pub mod Serving
+pub mod Unborn
 pub mod UnservedForm
 pub mod Words

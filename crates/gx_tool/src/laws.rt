@@ -1,15 +1,17 @@
 //! What the end of a run says of its script, where the source tells what is left. The functions do nothing but ask laws
 //! of the crates below.
 
-ghost use Rattle.std.specs.Prelude.{◌≡◌, ◌≤◌, ◌⊎◌, ◌↔◌, ℕ, ◌+◌, List, [], ◌++◌, length, Some};
+ghost use Rattle.std.specs.Prelude.{◌≡◌, ◌≤◌, ◌⊎◌, ◌↔◌, ℕ, ◌+◌, List, [], ◌++◌, length, None, Some};
 ghost use Rattle.gix.specs.Held.{Whole, state_of};
 ghost use Rattle.gix.specs.View.{State};
 ghost use Rattle.gx_script.specs.declared.request.Request.{Request};
 ghost use Rattle.gx_script.specs.Script.{IsScript};
-ghost use Rattle.gx_tool.specs.Completeness.{IsFaultless, AreValid};
+ghost use Rattle.gx_tool.specs.Completeness.{AreValidCommits, IsFaultless, IsFaultlessScene, AreValid};
 ghost use Rattle.gx_tool.specs.Course.{Moment, Answers};
+ghost use Rattle.gx_tool.specs.Generating.{IsGenerated, Scene};
 ghost use Rattle.gx_tool.specs.CallLaws.{CallLaws};
 ghost use Rattle.gx_tool.specs.ReadsOnce.{ReadsOnce};
+ghost use Rattle.gx_tool.specs.Unborn.{HaveOwnIds, IsNew};
 
 /// The laws of the language that those here rest on.
 fn reads_once()
@@ -88,4 +90,30 @@ pub fn valid_requests_are_accepted()
 {
     reads_once();
     call_laws();
+}
+
+/// Commits of the generator that are valid, each in its own state of the run, are all made, unless memory runs out,
+/// where nothing fails and the store tells its state.
+pub fn valid_commits_are_generated()
+    ensures { (count : ℕ) (start now : Scene) (number : ℕ) (state : State) → IsGenerated count start now number
+        → IsFaultlessScene start now → state_of start.held.store ≡ Some state
+        → AreValidCommits count (record { settings = start.held.settings; state = state }) 1 None
+        → (number ≡ 0) ⊎ (number ≡ 5) }
+{
+    call_laws();
+}
+
+/// In a new repository whose objects keep their own ids all commits of the generator are made, unless memory runs out,
+/// where nothing fails and the store tells its state.
+pub fn commits_on_an_unborn_head_are_generated()
+    ensures { (count : ℕ) (start now : Scene) (number : ℕ) (state : State) → IsGenerated count start now number
+        → IsFaultlessScene start now → state_of start.held.store ≡ Some state → count ≤ 20000
+        → IsNew (record { settings = start.held.settings; state = state })
+        → HaveOwnIds count (record { settings = start.held.settings; state = state }) 1 None
+        → (number ≡ 0) ⊎ (number ≡ 5) }
+{
+    call_laws();
+    gix::laws::map_of_first_parent_line();
+    gx_refs::laws::an_edit_has_one_plan();
+    gx_store::laws::found_stays();
 }

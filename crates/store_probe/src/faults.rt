@@ -1,6 +1,12 @@
 //! How rows tell why a store, a reference or a tree refuses a call: the variant's name and what it holds.
 
+use gix::commit::{CommitError, NewCommitError};
+use gix::id::ShortenError;
+use gix::object::find::{FindError, TryFindError};
 use gix::object::tree::EditTreeError;
+use gix::object::write::WriteError;
+use gix::reference::iter::IterError;
+use gix::reference::{RefFindError, SetTargetError};
 use gx_edit::EditError;
 use gx_hash::ObjectId;
 use gx_object::{EntryKind, Field, Kind};
@@ -8,7 +14,7 @@ use gx_refs::RefError;
 use gx_rules::{ComponentError, FullName};
 use gx_store::{StoreError, Target, What};
 use probe_rows::ProbeError;
-use probe_rows::answers::{push_field, push_id, push_word, word};
+use probe_rows::answers::{push_field, push_id, push_shown, push_word, word};
 use std::alloc::Global;
 
 pub fn store_error(alloc: Global, error: &StoreError) -> Result<Vec<u8>, ProbeError> {
@@ -19,7 +25,7 @@ pub fn store_error(alloc: Global, error: &StoreError) -> Result<Vec<u8>, ProbeEr
 }
 
 /// The part of a store that failed.
-fn failed(alloc: Global, variant: &str, what: &What) -> Result<Vec<u8>, ProbeError> {
+pub fn failed(alloc: Global, variant: &str, what: &What) -> Result<Vec<u8>, ProbeError> {
     let mut answer = word(alloc, variant)?;
     push_what(&mut answer, what)?;
     Ok(answer)
@@ -54,6 +60,33 @@ pub fn reference_error(alloc: Global, error: &RefError) -> Result<Vec<u8>, Probe
         RefError::Store { what } => failed(alloc, "store", what),
         RefError::NoMemory => Err(ProbeError::NoMemory),
         _ => edit_refusal(alloc, error),
+    }
+}
+
+pub fn reference_find_error(alloc: Global, error: &RefFindError) -> Result<Vec<u8>, ProbeError> {
+    match error {
+        RefFindError::NotFound { name } => named(alloc, "not-found", name.as_slice()),
+        RefFindError::Store { what } => failed(alloc, "store", what),
+        RefFindError::NoMemory => Err(ProbeError::NoMemory),
+    }
+}
+
+pub fn iter_error(alloc: Global, error: &IterError) -> Result<Vec<u8>, ProbeError> {
+    match error {
+        IterError::RelativePath => word(alloc, "relative-path"),
+        IterError::Store { what } => failed(alloc, "store", what),
+        IterError::NoMemory => Err(ProbeError::NoMemory),
+    }
+}
+
+pub fn set_target_error(alloc: Global, error: &SetTargetError) -> Result<Vec<u8>, ProbeError> {
+    match error {
+        SetTargetError::SymbolicReference { name } => {
+            named(alloc, "symbolic-reference", name.as_slice())
+        }
+        SetTargetError::ReferenceEdit(refusal) => reference_error(alloc, refusal),
+        SetTargetError::Store { what } => failed(alloc, "store", what),
+        SetTargetError::NoMemory => Err(ProbeError::NoMemory),
     }
 }
 
@@ -151,13 +184,80 @@ pub fn edit_tree_error(alloc: Global, error: &EditTreeError) -> Result<Vec<u8>, 
     }
 }
 
-fn with_id(alloc: Global, variant: &str, id: &ObjectId) -> Result<Vec<u8>, ProbeError> {
+pub fn find_error(alloc: Global, error: &FindError) -> Result<Vec<u8>, ProbeError> {
+    match error {
+        FindError::NotFound { id } => with_id(alloc, "not-found", id),
+        FindError::Store { what } => failed(alloc, "store", what),
+        FindError::NoMemory => Err(ProbeError::NoMemory),
+    }
+}
+
+pub fn try_find_error(alloc: Global, error: &TryFindError) -> Result<Vec<u8>, ProbeError> {
+    match error {
+        TryFindError::Store { what } => failed(alloc, "store", what),
+        TryFindError::NoMemory => Err(ProbeError::NoMemory),
+    }
+}
+
+pub fn write_error(alloc: Global, error: &WriteError) -> Result<Vec<u8>, ProbeError> {
+    match error {
+        WriteError::Unwritable { field } => unwritable_field(alloc, *field),
+        WriteError::Read => word(alloc, "read"),
+        WriteError::TooLarge => word(alloc, "too-large"),
+        WriteError::SizeMismatch { declared, found } => {
+            let mut answer = word(alloc, "size-mismatch")?;
+            push_shown(alloc, &mut answer, declared)?;
+            push_shown(alloc, &mut answer, found)?;
+            Ok(answer)
+        }
+        WriteError::IdMismatch { given, found } => {
+            let mut answer = with_id(alloc, "id-mismatch", given)?;
+            push_id(&mut answer, found)?;
+            Ok(answer)
+        }
+        WriteError::Store { what } => failed(alloc, "store", what),
+        WriteError::NoMemory => Err(ProbeError::NoMemory),
+    }
+}
+
+pub fn shorten_error(alloc: Global, error: &ShortenError) -> Result<Vec<u8>, ProbeError> {
+    match error {
+        ShortenError::NotFound { oid } => with_id(alloc, "not-found", oid),
+        ShortenError::Store { what } => failed(alloc, "store", what),
+        ShortenError::NoMemory => Err(ProbeError::NoMemory),
+    }
+}
+
+pub fn new_commit_error(alloc: Global, error: &NewCommitError) -> Result<Vec<u8>, ProbeError> {
+    match error {
+        NewCommitError::Unwritable { field } => unwritable_field(alloc, *field),
+        NewCommitError::Store { what } => failed(alloc, "store", what),
+        NewCommitError::NoMemory => Err(ProbeError::NoMemory),
+    }
+}
+
+pub fn commit_error(alloc: Global, error: &CommitError) -> Result<Vec<u8>, ProbeError> {
+    match error {
+        CommitError::Unwritable { field } => unwritable_field(alloc, *field),
+        CommitError::ReferenceEdit(error) => reference_error(alloc, error),
+        CommitError::Store { what } => failed(alloc, "store", what),
+        CommitError::NoMemory => Err(ProbeError::NoMemory),
+    }
+}
+
+fn unwritable_field(alloc: Global, field: Field) -> Result<Vec<u8>, ProbeError> {
+    let mut answer = word(alloc, "unwritable")?;
+    push_word(&mut answer, field_name(field))?;
+    Ok(answer)
+}
+
+pub fn with_id(alloc: Global, variant: &str, id: &ObjectId) -> Result<Vec<u8>, ProbeError> {
     let mut answer = Vec::new(alloc);
     push_with_id(&mut answer, variant, id)?;
     Ok(answer)
 }
 
-fn object_kind(alloc: Global, id: &ObjectId, actual: Kind) -> Result<Vec<u8>, ProbeError> {
+pub fn object_kind(alloc: Global, id: &ObjectId, actual: Kind) -> Result<Vec<u8>, ProbeError> {
     let mut answer = with_id(alloc, "object-kind", id)?;
     push_field(&mut answer, actual.as_bytes())?;
     Ok(answer)
@@ -209,6 +309,9 @@ fn component_error(error: ComponentError) -> &'static str {
 fn field_name(field: Field) -> &'static str {
     match field {
         Field::FileName => "file-name",
+        Field::AuthorName => "author-name",
+        Field::AuthorEmail => "author-email",
+        Field::AuthorOffset => "author-offset",
         Field::CommitterName => "committer-name",
         Field::CommitterEmail => "committer-email",
         Field::CommitterOffset => "committer-offset",

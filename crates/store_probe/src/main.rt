@@ -2,20 +2,25 @@
 //! input, and prints them again with what the libraries answer.
 #![tactic(auto)]
 
+mod abbreviations;
+mod commits;
 mod committers;
 mod directories;
 mod editors;
 mod edits;
 mod faults;
 mod logs;
+mod objects;
 mod path_maps;
 mod reference_edits;
 mod references;
+mod repository_references;
 mod runs;
 mod settings;
 mod store;
 mod tree_editors;
 mod values;
+mod writes;
 
 use probe_rows::{Answer, ProbeError, answer_rows};
 use std::alloc::Global;
@@ -48,6 +53,8 @@ impl Answer for Libraries {
             "edits" => path_maps::answer_edits(alloc, fields),
             "path_map" => path_maps::answer_steps(alloc, fields),
             "editor" => editors::answer(alloc, fields),
+            "objects" => objects::answer(alloc, fields),
+            "writes" => writes::answer(alloc, fields),
             "edit_tree" => tree_editors::answer(alloc, fields),
             _ => directories::answer(alloc, call, fields),
         }

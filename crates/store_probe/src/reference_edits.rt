@@ -165,7 +165,11 @@ fn change_in(
     })
 }
 
-fn expected_in(alloc: Global, hash: HashKind, field: &[u8]) -> Result<PreviousValue, ProbeError> {
+pub fn expected_in(
+    alloc: Global,
+    hash: HashKind,
+    field: &[u8],
+) -> Result<PreviousValue, ProbeError> {
     match field {
         b"any" => Ok(PreviousValue::Any),
         b"exists" => Ok(PreviousValue::MustExist),

@@ -113,7 +113,7 @@ fn log(alloc: Global, store: &Memory, name: &FullName) -> Result<Vec<u8>, ProbeE
     }
 }
 
-fn told_lines(alloc: Global, lines: &Lines) -> Result<Vec<u8>, ProbeError> {
+pub fn told_lines(alloc: Global, lines: &Lines) -> Result<Vec<u8>, ProbeError> {
     let mut answer = Vec::new(alloc);
     for line in lines.as_slice() {
         push_line(alloc, &mut answer, line)?;

@@ -8,9 +8,11 @@
 //! - `windows` forbids names that Windows forbids; `logs MODE` says which logs are written, as `normal`, `always` or
 //!   `disable`.
 //! - `namespace NAME` goes into a namespace, and `namespace` into none; both answer the prefix from before, or `none`.
-//! - All other steps are those of `store` rows.
+//! - Steps on the references of the repository are those of src/repository_references.rt, and all other steps those of
+//!   `store` rows.
 
 use crate::reference_edits::partial_in;
+use crate::repository_references;
 use crate::settings::choose;
 use crate::store::{answer_step, push_answer};
 use crate::values::hash_in;
@@ -67,7 +69,7 @@ fn stepped(
         push_answer(answers, &answer)?;
         return Ok(repo);
     }
-    if let Some(answer) = moved(alloc, &mut repo, step)? {
+    if let Some(answer) = moved_or_read(alloc, &mut repo, step)? {
         push_answer(answers, &answer)?;
         return Ok(repo);
     }
@@ -76,6 +78,22 @@ fn stepped(
     let answer = chosen_or_made(alloc, &mut settings, &mut store, step)?;
     push_answer(answers, &answer)?;
     Ok(Repository::new(store, settings))
+}
+
+/// The answer of a step that goes into a namespace, or of one on the references of the repository.
+fn moved_or_read(
+    alloc: Global,
+    repo: &mut Repository<Memory>,
+    step: &[Vec<u8>],
+) -> Result<Option<Vec<u8>>, ProbeError> {
+    if let Some(answer) = moved(alloc, repo, step)? {
+        return Ok(Some(answer));
+    }
+    match repository_references::answer(alloc, repo, step) {
+        Ok(answer) => Ok(Some(answer)),
+        Err(ProbeError::UnknownCall) => Ok(None),
+        Err(error) => Err(error),
+    }
 }
 
 /// The answer of a step that goes into a namespace, or into none.

@@ -6,10 +6,11 @@ use crate::values::{hash_in, id_in, kind_in, name_in, number_in, word_in};
 use crate::{reference_edits, references};
 use gx_hash::ObjectId;
 use gx_object::Kind;
-use gx_store::{Memory, Objects, write_object};
+use gx_store::{Memory, Objects, StoreError, write_object};
 use probe_rows::ProbeError;
 use probe_rows::answers::{hex, push_field, push_shown, shown, truth, word};
 use std::alloc::Global;
+use std::fmt::Display;
 
 /// The answer of `store`.
 pub fn answer(alloc: Global, fields: &[Vec<u8>]) -> Result<Vec<u8>, ProbeError> {
@@ -68,6 +69,8 @@ fn read_by(
         "read" => read(alloc, store, &only_id(fields)?),
         "header" => header(alloc, store, &only_id(fields)?),
         "exists" => exists(alloc, store, &only_id(fields)?),
+        "count" => number(alloc, store.count(alloc)),
+        "longest_shared" => number(alloc, store.longest_shared(alloc, &only_id(fields)?)),
         "faults" => shown(alloc, &store.fault_count()),
         _ => Err(ProbeError::UnknownCall),
     }
@@ -104,6 +107,10 @@ fn prepare(
         "put" => put(store, fields),
         "break_object" => Ok(store.break_object(only_id(fields)?)?),
         "break_name" => Ok(store.break_name(name_in(alloc, only(fields)?)?)?),
+        "break_index" => {
+            store.break_index();
+            Ok(())
+        }
         "break_listing" => {
             store.break_listing();
             Ok(())
@@ -174,6 +181,17 @@ fn header(alloc: Global, store: &Memory, id: &ObjectId) -> Result<Vec<u8>, Probe
             Ok(answer)
         }
         Ok(None) => word(alloc, "none"),
+        Err(error) => store_error(alloc, &error),
+    }
+}
+
+/// The answer of a call that counts.
+fn number<N: Display + Drop>(
+    alloc: Global,
+    found: Result<N, StoreError>,
+) -> Result<Vec<u8>, ProbeError> {
+    match found {
+        Ok(number) => shown(alloc, &number),
         Err(error) => store_error(alloc, &error),
     }
 }

@@ -208,7 +208,7 @@ fn protect(
 }
 
 /// The answer of a step on the repository's store.
-fn on_store(
+pub fn on_store(
     alloc: Global,
     repo: &mut Repository<Memory>,
     step: &[Vec<u8>],

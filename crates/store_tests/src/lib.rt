@@ -11,6 +11,8 @@ mod faults_of_trees;
 #[cfg(test)]
 mod samples;
 #[cfg(test)]
+mod signers;
+#[cfg(test)]
 mod sinks;
 #[cfg(test)]
 mod sources;

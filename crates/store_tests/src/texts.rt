@@ -3,7 +3,7 @@ use gx_edit::EditError;
 use gx_hash::{HashKind, NoMemory, ObjectId};
 use gx_object::{Field, Kind};
 use gx_refs::RefError;
-use gx_store::{SinkError, SourceError, StoreError, What};
+use gx_store::{SignerError, SinkError, SourceError, StoreError, What};
 use std::alloc::Global;
 use std::fmt::{Debug, Display};
 
@@ -24,6 +24,8 @@ fn store_errors(alloc: Global) -> Result<bool, NoMemory> {
             && says(alloc, &SinkError::Failed, "a write failed")?
             && says(alloc, &SinkError::NoMemory, "out of memory")?
             && says(alloc, &SourceError::Failed, "a read failed")?
+            && says(alloc, &SignerError::Failed, "signing failed")?
+            && says(alloc, &SignerError::NoMemory, "out of memory")?
             && shows(alloc, &SourceError::Failed, "Failed")?,
     )
 }

@@ -18,8 +18,9 @@ impl<S: Store> Repository<S> {
     ghost use Rattle.gix.specs.Meaning.{Means};
     ghost use Rattle.gix.specs.Repository.{held_by, store_of};
 
-    /// Makes the edits of references, all at once or none, and answers them as they were made, each with what it found.
-    /// Lines of logs that are due are the committer's. New ids have to be of the repository's kind.
+    /// Makes the edits of references, all at once, and answers them as they were made, each with what it found.
+    /// A refusal makes none of them, and a fault of writing leaves each changed name and log old or new. Lines of logs
+    /// that are due are the committer's. New ids have to be of the repository's kind.
     ///
     /// # Errors
     /// `Cycle` and `DepthLimitExceeded` for an edit that follows symbolic references; `MustExist`, `MustNotExist` and

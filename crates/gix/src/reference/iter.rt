@@ -8,3 +8,4 @@ mod reading;
 pub use error::IterError;
 pub use list::ReferenceList;
 pub use platform::Platform;
+pub(crate) use reading::store_error;

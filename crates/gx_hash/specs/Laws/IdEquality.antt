@@ -4,19 +4,15 @@ use Rattle.std.specs.declared.cmp.Ordering.{Ordering}
 use Rattle.std.specs.declared.cmp.Ordering.TheVariants.{Less, Equal, Greater}
 use Rattle.std.specs.Ordering.{eq_by_cmp, is_eq}
 use Rattle.std.specs.Cmp.{eq_by_cmp_equiv}
-use Rattle.std.specs.Cmp.Lexicographic.{texts_ties}
 use Rattle.gx_hash.specs.ObjectId.{id_cmp}
 use Rattle.gx_hash.specs.ObjectIds.{id_eq}
 use Rattle.gx_hash.specs.declared.oid.ObjectId.{ObjectId}
-use Rattle.gx_hash.specs.declared.oid.ObjectId.TheVariants.{Sha1, Sha256}
-use Rattle.gx_hash.specs.Laws.IdOrder.{id_cmp_total, id_cmp-IsAntisymmetric}
+use Rattle.gx_hash.specs.Laws.IdCmp.{id_cmp_total, id_cmp-eq}
+use Rattle.gx_hash.specs.Laws.IdOrder.{id_cmp-IsAntisymmetric}
 
 -- ids are equal exactly where the order ties them
 pub ids_tied : (a b : ObjectId) → id_eq a b ≡ eq_by_cmp id_cmp a b
-ids_tied (Sha1 a) (Sha1 b) = texts_ties a b
-ids_tied (Sha1 a) (Sha256 b) = refl
-ids_tied (Sha256 a) (Sha1 b) = refl
-ids_tied (Sha256 a) (Sha256 b) = texts_ties a b
+ids_tied = id_cmp-eq
 
 tied : (r : Ordering) → is_eq r ≡ true → r ≡ Equal
 tied Less e = cc

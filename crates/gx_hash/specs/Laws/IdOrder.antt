@@ -1,15 +1,12 @@
--- The order of ids is total, and tells all ids apart; how they are hashed and read.
+-- The order of ids tells all ids apart; how they are hashed and read.
 use Rattle.std.proofs.Common.{◌≡◌, ℕ, List, length, Ok, ap, refl, arith}
-use Rattle.std.specs.Cmp.{IsTotalOrder, nat_cmp_total}
-use Rattle.std.specs.Cmp.Lexicographic.{nat_list_cmp_total}
 use Rattle.std.specs.FinMap.{IsAntisymmetric, slice_cmp-IsAntisymmetric, nat_cmp-IsAntisymmetric}
-use Rattle.std.proofs.lemmas.Cmp.{on_total, then_total}
 use Rattle.hex.specs.Hex.{IsBytes, encode_lower, lower_digits}
 use Rattle.hex.proofs.HexLemmas.{length-encode_with, decode_of-encode_lower}
 use Rattle.gx_hash.specs.declared.oid.ObjectId.{ObjectId}
 use Rattle.gx_hash.specs.declared.oid.ObjectId.TheVariants.{Sha1, Sha256}
 use Rattle.gx_hash.specs.contracts.oid.ObjectIdHash.TheImpl as derived_hash
-use Rattle.gx_hash.specs.ObjectId.{id_cmp, id_hash_input, kind_rank, bytes_of, hex_of, id_from_hex}
+use Rattle.gx_hash.specs.ObjectId.{id_cmp, id_hash_input, bytes_of, hex_of, id_from_hex}
 use Rattle.gx_hash.specs.ObjectIds.{derived_cmp}
 use Rattle.gx_hash.specs.HashKind.{kind_of, len_in_bytes}
 
@@ -20,18 +17,9 @@ id_cmp-IsAntisymmetric (Sha256 a) (Sha256 b) e = ap Sha256 (slice_cmp-IsAntisymm
 id_cmp-IsAntisymmetric (Sha1 a) (Sha256 b) e = cc
 id_cmp-IsAntisymmetric (Sha256 a) (Sha1 b) e = cc
 
-pub id_cmp_total : IsTotalOrder id_cmp
-id_cmp_total = then_total (on_total kind_rank nat_cmp_total) (on_total bytes_of nat_list_cmp_total)
-
-derived_at : (a b : ObjectId) → derived_cmp a b ≡ id_cmp a b
-derived_at (Sha1 a) (Sha1 b) = refl
-derived_at (Sha1 a) (Sha256 b) = refl
-derived_at (Sha256 a) (Sha1 b) = refl
-derived_at (Sha256 a) (Sha256 b) = refl
-
--- the derived order is that of kind and bytes
+-- `cmp` goes by kind and bytes
 pub derived_cmp-id_cmp : derived_cmp ≡ id_cmp
-derived_cmp-id_cmp = λ i a b. derived_at a b i
+derived_cmp-id_cmp = refl
 
 -- what `derive(Hash)` feeds a hasher
 pub derived_hash-id_hash_input : (id : ObjectId) → (derived_hash.ghosts).hash_input id ≡ id_hash_input id

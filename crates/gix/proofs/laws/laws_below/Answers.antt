@@ -20,5 +20,5 @@ returns c = record {
   writing = c.writing_adds.ensures;
   added = c.added_is_found.ensures;
   found = c.found_stays.ensures;
-  made = c.edits_that_may_be_made_are_not_refused.ensures;
+  not_refused = c.edits_that_may_be_made_are_not_refused.ensures;
 }

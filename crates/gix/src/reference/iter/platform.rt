@@ -1,6 +1,6 @@
 //! Which references are listed.
 
-use super::reading::{is_relative_path, read_references};
+use super::reading::{is_relative_path, read_pseudo, read_references};
 use super::{IterError, ReferenceList};
 use crate::Repository;
 use gx_store::Store;
@@ -20,7 +20,7 @@ impl<'repo, S: Store> Platform<'repo, S> {
     ghost use Rattle.std.specs.Prelude.{codes};
     ghost use Rattle.gix.specs.Asking.{asks};
     ghost use Rattle.gix.specs.Meaning.{Means};
-    ghost use Rattle.gix.specs.References.{references_query, repository_of};
+    ghost use Rattle.gix.specs.References.{pseudo_query, references_query, repository_of};
     ghost use Rattle.gix.specs.Repository.{held_by};
 
     /// The references whose names begin with the prefix, such as `refs/heads/feature-`, in rising order of bytes. Each
@@ -69,6 +69,17 @@ impl<'repo, S: Store> Platform<'repo, S> {
             result (held_by S.state (repository_of self.now)) }
     {
         self.prefixed(alloc, b"refs/remotes/")
+    }
+
+    /// Those whose names have no slash, as `HEAD`.
+    ///
+    /// # Errors
+    /// `Store` if the names or one of these references can't be read; `NoMemory`.
+    pub fn pseudo(&self, alloc: Global) -> Result<ReferenceList, IterError>
+        ensures { Means (asks pseudo_query) (held_by S.state (repository_of self.now)) result
+            (held_by S.state (repository_of self.now)) }
+    {
+        Ok(read_pseudo(alloc, self.repo)?)
     }
 }
 

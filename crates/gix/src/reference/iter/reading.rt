@@ -1,17 +1,18 @@
 //! References that are listed, and then read one by one.
 
-ghost use Rattle.std.specs.Prelude.{◌≡◌, ◌++◌, ◌∷◌, ◌&&◌, [], not, None, List, ℕ, IfOk, IfErr, IfSome, IfNone, OnOk, option_copied, Contains};
+ghost use Rattle.std.specs.Prelude.{◌≡◌, ◌++◌, ◌∷◌, ◌&&◌, [], filter, not, None, List, ℕ, IfOk, IfErr, IfSome, IfNone, OnOk, option_copied, Contains};
 ghost use Rattle.std.specs.FinMap.{get};
 ghost use Rattle.std.specs.List.{AllByRecursion, list_all};
 ghost use Rattle.gx_rules.specs.Path.{components};
 ghost use Rattle.gx_store.specs.Kinds.{IsTargetOfKind};
+ghost use Rattle.gx_store.specs.Listing as listing;
 ghost use Rattle.gx_store.specs.State.{IfFault, IsUnreadable};
 ghost use Rattle.gx_store.specs.declared.error.What.TheVariants as part;
 ghost use Rattle.gx_refs.specs.Finding.{IsListing, ListCauses};
 ghost use Rattle.gx_refs.specs.Shown.{prefix_of, stored_name};
 ghost use Rattle.gx_refs.specs.declared.reference.Reference.{Reference};
 ghost use Rattle.gix.specs.Found.{AreFound, IsFound};
-ghost use Rattle.gix.specs.References.{AreReferences, ReadsListing, is_relative_path, is_step, store_error};
+ghost use Rattle.gix.specs.References.{ArePseudo, AreReferences, ReadsListing, ReadsPseudo, is_pseudo, is_relative_path, is_step, names_of, store_error};
 ghost use Rattle.gix.specs.Repository.{settings_of, store_of};
 ghost use Rattle.gix.specs.Space.{space_of};
 
@@ -112,8 +113,8 @@ fn read_names<S: Store>(
     Ok(list)
 }
 
-/// What of a refused listing is the store's. A listing is refused for nothing else.
-fn store_error(error: RefError) -> StoreError
+/// What of a refused listing or look-up is the store's. They are refused for nothing else.
+pub(crate) fn store_error(error: RefError) -> StoreError
     ensures { result ≡ store_error error }
 {
     match error {
@@ -131,6 +132,7 @@ fn list_names<S: Store>(
 ) -> Result<Names, StoreError>
     ensures ok { IfOk result (λ names. IfSome (S.state store.now).references (λ refs.
         IsListing (prefix_of (option_copied space.entry)) prefix.now refs.targets names)) }
+    ensures listing { IfOk result (listing.IsListing prefix.now) }
     ensures fault { IfFault result (IsUnreadable (S.state store.now) part.Listing) }
 {
     match iterate(alloc, store, space, prefix) {
@@ -149,11 +151,46 @@ pub(super) fn read_references<S: Store>(
         (λ (reference : Reference). IsTargetOfKind (S.state (store_of repo.now)).hash reference.target) list) }
     ensures ok { IfOk result (λ list. IfSome (S.state (store_of repo.now)).references (λ refs.
         AreReferences (space_of (settings_of repo.now)) prefix.now refs list)) }
+    ensures listing { IfOk result (λ list. listing.IsListing prefix.now (names_of list)) }
     ensures fault { IfFault result (λ fault. IsUnreadable (S.state (store_of repo.now)) fault fault
         × ReadsListing (space_of (settings_of repo.now)) prefix.now (S.state (store_of repo.now)).references fault) }
 {
     let space = namespace_of(&repo.settings);
     let names = list_names(alloc, &repo.store, space, prefix)?;
+    let list = read_names(alloc, &repo.store, space, names.as_slice())?;
+    Ok(ReferenceList::from_vec(list))
+}
+
+/// Whether the name is of no directory.
+fn is_pseudo(name: &FullName) -> bool
+    ensures { result ≡ is_pseudo name.now }
+{
+    name.as_slice().iter().all(|byte| *byte != b'/')
+}
+
+/// Those of the names that are of no directory.
+fn pseudo_names(names: Names) -> Names
+    ensures { result ≡ filter is_pseudo names }
+{
+    let mut kept = names.into_vec();
+    kept.retain(|name| is_pseudo(name));
+    Names::from_vec(kept)
+}
+
+/// The references whose names are of no directory, as they are shown.
+pub(super) fn read_pseudo<S: Store>(
+    alloc: Global,
+    repo: &Repository<S>,
+) -> Result<ReferenceList, StoreError>
+    ensures kinds { IfOk result (λ list. AllByRecursion
+        (λ (reference : Reference). IsTargetOfKind (S.state (store_of repo.now)).hash reference.target) list) }
+    ensures ok { IfOk result (λ list. IfSome (S.state (store_of repo.now)).references (λ refs.
+        ArePseudo (space_of (settings_of repo.now)) refs list)) }
+    ensures fault { IfFault result (λ fault. IsUnreadable (S.state (store_of repo.now)) fault fault
+        × ReadsPseudo (space_of (settings_of repo.now)) (S.state (store_of repo.now)).references fault) }
+{
+    let space = namespace_of(&repo.settings);
+    let names = pseudo_names(list_names(alloc, &repo.store, space, b"")?);
     let list = read_names(alloc, &repo.store, space, names.as_slice())?;
     Ok(ReferenceList::from_vec(list))
 }

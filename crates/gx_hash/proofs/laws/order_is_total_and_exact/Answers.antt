@@ -1,4 +1,5 @@
-use Rattle.gx_hash.specs.Laws.IdOrder.{id_cmp_total, id_cmp-IsAntisymmetric}
+use Rattle.gx_hash.specs.Laws.IdCmp.{id_cmp_total}
+use Rattle.gx_hash.specs.Laws.IdOrder.{id_cmp-IsAntisymmetric}
 use Rattle.gx_hash.proofs.laws.order_is_total_and_exact.Goals as goal
 
 pub returns-clause-total : goal.returns-clause-total
